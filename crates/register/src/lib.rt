@@ -1,0 +1,31 @@
+// The register through which equal objects are found: a set of pairs of a hash and an object's number, of
+// at most so many. Its owner chooses an implementation; code above it knows it by its meaning alone.
+ghost use mathlib.Core.Path.{_≡_};
+ghost use Rattle.register.specs.Pairs.{Pairs, fits, entered, struck, Next, Counted};
+use link::ObjIdx;
+
+pub trait Register {
+    // What it means: which pairs it holds, how many, and how many it may hold.
+    ghost holds: { Self → Pairs };
+
+    // The count is that of the pairs held, and within the capacity.
+    law counted: { (s : Self) → Counted (holds s) };
+
+    // Adds a pair, and answers yes, also where it is held already. At capacity it answers no to a new pair,
+    // and nothing changes.
+    fn enter(&mut self, hash: u64, number: ObjIdx) -> bool
+        ensures answer { λ r. ⌜ r ≡ fits (holds (now (self .entry))) hash (number .0) ⌝ }
+        ensures register { λ _. ⌜ holds (now (self .exit)) ≡ entered (holds (now (self .entry))) hash (number .0) ⌝ };
+
+    // Removes a pair if it is held, and no other.
+    fn strike(&mut self, hash: u64, number: ObjIdx)
+        ensures register { λ _. ⌜ holds (now (self .exit)) ≡ struck (holds (now (self .entry))) hash (number .0) ⌝ };
+
+    // The least number held under the hash that is not below `from`, or none.
+    fn next(&self, hash: u64, from: ObjIdx) -> Option<ObjIdx>
+        ensures answer { λ r. ⌜ Next (holds (now (self .entry))) hash (from .0) r ⌝ };
+
+    // How many pairs it may hold.
+    fn capacity(&self) -> usize
+        ensures answer { λ r. ⌜ r ≡ holds (now (self .entry)) .capacity ⌝ };
+}
