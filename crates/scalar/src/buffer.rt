@@ -1,12 +1,12 @@
 // A scalar at a place of a byte buffer: written, read, and read back after it was written.
 ghost use mathlib.Core.Path.{_≡_};
-ghost use mathlib.Core.Bool.{cond, _&&_};
+ghost use mathlib.Core.Bool.{cond};
 ghost use Prim.Native.Nat.{_+_};
 ghost use lib.Dec.{leb};
+ghost use Rattle.std.specs.Of.Vec.{vec-items};
 ghost use Rattle.std.specs.declared.option.Option.the-variants.{Some, None};
-ghost use Rattle.scalar.specs.BigEndian.{big-endian};
+ghost use Rattle.std.specs.Slices.{found};
 ghost use Rattle.scalar.specs.Place.{room, write, read};
-use crate::CountScalar;
 use crate::Scalar;
 
 // Whether `size` bytes from `at` on lie within a buffer of `len`; their sum need not be a usize.
@@ -16,8 +16,7 @@ fn has_room(len: usize, at: usize, size: usize) -> bool
     size <= len && at <= len - size
 }
 
-// Writes the bytes of a scalar from `at` on, exactly if they have room there.
-pub fn write_at<S: Scalar>(buf: &mut [u8], at: usize, value: S) -> bool
+fn overwrite<S: Scalar>(buf: &mut [u8], at: usize, value: S) -> bool
     ensures answer { λ r. ⌜ r ≡ room (now (buf .entry)) at (S·Scalar .width) ⌝ }
     ensures state { λ r. ⌜ now (buf .exit) ≡ cond r (write (now (buf .entry)) at (S·Scalar .bytes value)) (now (buf .entry)) ⌝ }
     ensures fits { λ _. ⌜ S·Scalar .fits value ⌝ }
@@ -31,9 +30,20 @@ pub fn write_at<S: Scalar>(buf: &mut [u8], at: usize, value: S) -> bool
     true
 }
 
+// Writes the bytes of a scalar from `at` on, exactly if they have room there. It takes the vector and not a
+// slice of it, so that its contract tells the vector's owner what the vector holds.
+pub fn write_at<S: Scalar>(buf: &mut Vec<u8>, at: usize, value: S) -> bool
+    ensures answer { λ r. ⌜ r ≡ room (vec-items (now (buf .entry))) at (S·Scalar .width) ⌝ }
+    ensures state { λ r. ⌜ vec-items (now (buf .exit)) ≡ cond r (write (vec-items (now (buf .entry))) at (S·Scalar .bytes value)) (vec-items (now (buf .entry))) ⌝ }
+    ensures fits { λ _. ⌜ S·Scalar .fits value ⌝ }
+{
+    overwrite(buf, at, value)
+}
+
 // Reads a scalar from `at` on, exactly if all its bytes are there.
 pub fn read_at<S: Scalar>(buf: &[u8], at: usize) -> Option<S>
-    ensures { λ r. ⌜ r ≡ read (S·Scalar .reads) (S·Scalar .width) (now (buf .entry)) at ⌝ }
+    ensures answer { λ r. ⌜ r ≡ read (S·Scalar .reads) (S·Scalar .width) (now (buf .entry)) at ⌝ }
+    ensures fits { λ r. ⌜ found r (S·Scalar .fits) ⌝ }
 {
     let size = S::size();
     if !has_room(buf.len(), at, size) {
@@ -45,24 +55,13 @@ pub fn read_at<S: Scalar>(buf: &[u8], at: usize) -> Option<S>
 }
 
 // Writes a scalar and reads it again: what was written is read back.
-pub fn write_read<S: Scalar + Copy>(buf: &mut [u8], at: usize, value: S) -> Option<S>
-    ensures answer { λ r. ⌜ r ≡ cond (room (now (buf .entry)) at (S·Scalar .width)) (Some value) None ⌝ }
-    ensures state { λ _. ⌜ now (buf .exit) ≡ cond (room (now (buf .entry)) at (S·Scalar .width)) (write (now (buf .entry)) at (S·Scalar .bytes value)) (now (buf .entry)) ⌝ }
+pub fn write_read<S: Scalar + Copy>(buf: &mut Vec<u8>, at: usize, value: S) -> Option<S>
+    ensures answer { λ r. ⌜ r ≡ cond (room (vec-items (now (buf .entry))) at (S·Scalar .width)) (Some value) None ⌝ }
+    ensures state { λ _. ⌜ vec-items (now (buf .exit)) ≡ cond (room (vec-items (now (buf .entry))) at (S·Scalar .width)) (write (vec-items (now (buf .entry))) at (S·Scalar .bytes value)) (vec-items (now (buf .entry))) ⌝ }
 {
     if write_at(buf, at, value) {
         read_at(buf, at)
     } else {
         None
-    }
-}
-
-// Writes a count as a scalar, exactly if the scalar can hold it and has room.
-pub fn write_count<S: CountScalar>(buf: &mut [u8], at: usize, count: usize) -> bool
-    ensures answer { λ r. ⌜ r ≡ (leb count (S·CountScalar .most) && room (now (buf .entry)) at (S·Scalar .width)) ⌝ }
-    ensures state { λ r. ⌜ now (buf .exit) ≡ cond r (write (now (buf .entry)) at (big-endian (S·Scalar .width) count)) (now (buf .entry)) ⌝ }
-{
-    match S::from_count(count) {
-        Some(value) => write_at(buf, at, value),
-        None => false,
     }
 }

@@ -13,6 +13,12 @@ pub mod buffer;
 pub mod kinds;
 pub mod numbers;
 
+pub use buffer::read_at;
+pub use buffer::write_at;
+pub use buffer::write_read;
+pub use kinds::Tag;
+pub use kinds::Uint24;
+
 pub trait Scalar: Sized {
     // How many bytes it takes, which ones stand for a value, and which value bytes stand for.
     ghost width: { ℕ };
@@ -63,6 +69,8 @@ pub trait CountScalar: Scalar {
     ghost counting: { ℕ → Self };
 
     law largest: { suc most ≡ cond signed (256 ^ Self·Scalar .width / 2) (256 ^ Self·Scalar .width) };
+
+    law held: { (n : ℕ) → n ≤ most → Self·Scalar .fits (counting n) };
 
     law counted: { (n : ℕ) → n ≤ most → Self·Scalar .bytes (counting n) ≡ big-endian (Self·Scalar .width) n };
 

@@ -5,6 +5,7 @@ ghost use Prim.Native.Nat.{_-_, _^_};
 ghost use lib.Dec.{ltb};
 ghost use lib.ListN.{length};
 ghost use Rattle.std.specs.declared.option.Option.the-variants.{Some, None};
+ghost use Rattle.std.specs.Orderings.{Decides};
 ghost use Rattle.scalar.specs.BigEndian.{number, big-endian, Bytes};
 ghost use Rattle.scalar.specs.Kinds.{value-of, uint24, tag-bytes, tag};
 use super::Tag;
@@ -93,3 +94,14 @@ pub impl Scalar for Tag as TagScalar {
         Tag(raw)
     }
 }
+
+// Written out, since a derived one says nothing of arrays.
+pub impl PartialEq<Tag> for Tag as TagPartialEq {
+    ghost equals = { λ x y r. Decides r (x ≡ y) };
+
+    fn eq(&self, other: &Tag) -> bool {
+        self.0 == other.0
+    }
+}
+
+pub impl Eq for Tag as TagEq {}

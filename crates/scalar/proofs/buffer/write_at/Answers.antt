@@ -1,19 +1,16 @@
-use mathlib.Core.Path.{_≡_, sym, _∙_, ap}
-use Prim.Native.Nat.{ℕ, _+_, _-_}
-use native.Mathlib.Omega.{arith}
-use lib.ListN.{length, take}
-use Rattle.scalar.specs.Place.{room}
-use Rattle.scalar.proofs.Place.{take-in-four, putMid-write}
+use mathlib.Core.Path.{_≡_, _∙_, ap}
+use mathlib.Core.List.{List}
+use mathlib.Core.Bool.{cond}
+use Prim.Native.Nat.{ℕ}
+use lib.ListN.{length}
+use borrow.Author.Needs.{needs}
+use Rattle.std.proofs.shelf.Lists.{take-at}
+use Rattle.scalar.specs.Place.{room, write}
 use Rattle.scalar.proofs.buffer.write_at.Needs as need
 
 pub returns : need.returns
 returns g c =
-    let at = c .args .at in
-    let d = c .args .buf .now in
-    let bs = g .S·Scalar .bytes (c .args .value) in
-    let size = c .size-size .result in
-    let fits = c .raw-raw .ensures .fits in
-    let l : length bs ≡ size = g .S·Scalar·met .sized (c .args .value) fits ∙ sym (c .size-size .ensures) in
-    let k : length bs ≡ at + size - at = l ∙ omega arith in
-    let copied = c .copy-from-slice .ensures .after ∙ ap (take (size - 0)) (c .raw-raw .ensures .answer) ∙ take-in-four bs (size - 0) (l ∙ omega arith) in
-    record { answer = c .if-not-has-room .ensures tt ∙ ap (room d at) (c .size-size .ensures); state = putMid-write d bs _ at (at + size - at) copied k; fits = fits }
+    let w = c .overwrite in
+    let lent = c .deref-mut .ensures .value in
+    let l : length (w .last .buf) ≡ c .args .buf .now .len = search needs in
+    record { answer = w .ensures .answer ∙ ap (λ (d : List ℕ). room d (c .args .at) (g .S·Scalar .width)) lent; state = take-at (w .last .buf) _ _ l ∙ w .ensures .state ∙ ap (λ (d : List ℕ). cond (w .result) (write d (c .args .at) (g .S·Scalar .bytes (c .args .value))) d) lent; fits = w .ensures .fits }
