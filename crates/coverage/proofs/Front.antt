@@ -5,7 +5,7 @@ use mathlib.Core.Bool.{Bool, true, false, cond}
 use Prim.Native.Nat.{ℕ, _+_, _≤_}
 use native.Mathlib.Omega.{arith}
 use lib.ListN.{length, take, drop}
-use Rattle.std.proofs.shelf.Lists.{length-append, length-take-le, take-at}
+use Rattle.std.proofs.shelf.Lists.{length-append, length-take-le, length-drop, take-at}
 use Rattle.std.specs.declared.option.Option.the-variants.{Some, None}
 use Rattle.scalar.specs.BigEndian.{big-endian}
 use Rattle.scalar.specs.Place.{write}
@@ -15,6 +15,14 @@ pub front-written : (m bs : List ℕ) (at w : ℕ) → at + w ≤ length m → l
 front-written m bs at w room sized =
     let long : length (take at m ++ bs) ≡ at + w = length-append (take at m) bs ∙ ap (λ n. n + length bs) (length-take-le at m (omega arith)) ∙ ap (λ n. at + n) sized in
     take-at (take at m ++ bs) (drop (at + length bs) m) (at + w) long
+
+pub length-written : (m bs : List ℕ) (at w : ℕ) → at + w ≤ length m → length bs ≡ w → length (write m at bs) ≡ length m
+length-written m bs at w room sized =
+    let a = length-append (take at m ++ bs) (drop (at + length bs) m) in
+    let b = length-append (take at m) bs in
+    let t = length-take-le at m (omega arith) in
+    let d = length-drop (at + length bs) m in
+    omega arith
 
 pub glyph-array-more : (gs : List ℕ) (g : ℕ) → glyph-array (gs ++ (g ∷ [])) ≡ glyph-array gs ++ big-endian 2 g
 glyph-array-more [] g = append-nil (big-endian 2 g)

@@ -1,8 +1,8 @@
 -- The Coverage table of OpenType, format 1: a format, the number of glyphs, and their ids in numerical order, each a uint16.
-use mathlib.Core.Path.{_≡_}
 use mathlib.Core.List.{List, [], _∷_, _++_}
-use mathlib.Core.Logic.{_⊎_}
+use mathlib.Core.Bool.{Bool, false, _||_}
 use Prim.Native.Nat.{ℕ, _<_}
+use lib.Dec.{eqb}
 use lib.ListN.{length}
 use Rattle.scalar.specs.BigEndian.{big-endian}
 
@@ -15,15 +15,10 @@ abbrev pub Ascending : List ℕ → Type 0
 Ascending [] = Unit {0}
 Ascending (_∷_ g gs) = Above g gs
 
-abbrev pub In : ℕ → List ℕ → Type 0
-In g [] = ⊥
-In g (_∷_ x xs) = (g ≡ x) ⊎ In g xs
-
--- the ids in numerical order, each once, and no others
-pub record GlyphSet (ids glyphs : List ℕ) : Type 0 where
-  pub ordered : Ascending glyphs
-  pub complete : (g : ℕ) → In g ids → In g glyphs
-  pub sound : (g : ℕ) → In g glyphs → In g ids
+-- whether an id is in a list: equal functions are equal sets of ids, however often each stands
+abbrev pub among : List ℕ → ℕ → Bool
+among [] g = false
+among (_∷_ x xs) g = eqb x g || among xs g
 
 -- an array of uint16
 abbrev pub glyph-array : List ℕ → List ℕ

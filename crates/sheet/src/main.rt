@@ -53,7 +53,10 @@ fn report_bad_lines(rt: &LibcRuntime, path: &str, bad: &[BadLine]) -> io::Result
     for line in bad {
         let number = line.number;
         let text = line.text.as_str();
-        println!(rt, "{path}, line {number}: expected a glyph id below 65536, found \"{text}\"")?;
+        println!(
+            rt,
+            "{path}, line {number}: expected a glyph id below 65536, found \"{text}\""
+        )?;
     }
     Ok(())
 }
@@ -73,8 +76,9 @@ fn show_table(rt: &LibcRuntime, table: &[u8], glyphs: usize) -> io::Result<()> {
     show_field(rt, table, 0, "coverageFormat")?;
     show_field(rt, table, 2, "glyphCount")?;
     let mut place = 4usize;
-    for _ in 0..glyphs {
-        show_field(rt, table, place, "glyphArray")?;
+    for i in 0..glyphs {
+        let name = format!(rt.alloc(), "glyphArray[{i}]")?;
+        show_field(rt, table, place, name.as_str())?;
         place = place.saturating_add(2);
     }
     print!(rt, "table ")?;
@@ -98,7 +102,10 @@ fn build(rt: &LibcRuntime, ids: Vec<u16>) -> Result<(), AnyError> {
             Ok(())
         }
         Err(CoverageFault::TooManyGlyphs(n)) => {
-            println!(rt, "{n} glyphs are more than a Coverage table of format 1 counts")?;
+            println!(
+                rt,
+                "{n} glyphs are more than a Coverage table of format 1 counts"
+            )?;
             Err("nothing was written".into())
         }
         Err(CoverageFault::NoMemory) => Err("no memory for the table: nothing was written".into()),

@@ -13,12 +13,12 @@ pub loop-glyph-again : need.loop-glyph-again
 loop-glyph-again c =
     let gs = c .args .glyphs .now in
     let i = c .loop-glyph .glyph-index in
-    let before = take (c .args .cursor .now .head) (c .args .bytes .now) in
+    let before = take (c .args .cursor .now .head) (c .args .bytes .now .items) in
     let inv = c .loop-glyph .inv in
     let at = c .embed .ensures .cursor in
     let more : glyph-array (take (i + 1) gs) ≡ glyph-array (take i gs) ++ big-endian 2 (getD gs i 0) = ap glyph-array (take-more gs i 0 (c .loop-glyph-test .taken)) ∙ glyph-array-more (take i gs) (getD gs i 0) in
-    let front = ap (λ n. take n (c .embed .last .bytes)) (at .head-at) ∙ c .embed .ensures .front ∙ ap (λ bs. bs ++ big-endian 2 (getD gs i 0)) (inv .3) ∙ append-assoc before (glyph-array (take i gs)) (big-endian 2 (getD gs i 0)) ∙ ap (λ bs. before ++ bs) (sym more) in
-    (omega arith, at .tail-at ∙ inv .1, at .end-at ∙ inv .2, front)
+    let front = ap (λ n. take n (c .embed .last .bytes .items)) (at .head-at) ∙ c .embed .ensures .front ∙ ap (λ bs. bs ++ big-endian 2 (getD gs i 0)) (inv .4) ∙ append-assoc before (glyph-array (take i gs)) (big-endian 2 (getD gs i 0)) ∙ ap (λ bs. before ++ bs) (sym more) in
+    (c .embed .ensures .len ∙ inv .0, omega arith, at .tail-at ∙ inv .2, at .end-at ∙ inv .3, front)
 
 pub returns : need.returns
 returns c =
@@ -27,4 +27,4 @@ returns c =
     let inv = c .loop-glyph .inv in
     let all : take i gs ≡ gs = take-all i gs (c .loop-glyph-test .left) in
     let head : c .args .cursor .now .head + 2 * length gs ≡ c .loop-glyph .cursor .head = omega arith in
-    record { front = ap (λ n. take n (c .loop-glyph .bytes)) head ∙ inv .3 ∙ ap (λ l. take (c .args .cursor .now .head) (c .args .bytes .now) ++ glyph-array l) all }
+    record { len = inv .0; front = ap (λ n. take n (c .loop-glyph .bytes .items)) head ∙ inv .4 ∙ ap (λ l. take (c .args .cursor .now .head) (c .args .bytes .now .items) ++ glyph-array l) all }

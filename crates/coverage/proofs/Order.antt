@@ -1,10 +1,11 @@
--- A list that rises, with repetitions taken out: strictly ascending, and with the same elements. Used by `glyph_set`.
-use mathlib.Core.Path.{_≡_, refl, sym, ap, _∙_, subst}
+-- A list that rises, with repetitions taken out: strictly ascending, and with the same elements. Used by the two halves of `glyph_set`.
+use mathlib.Core.Path.{_≡_, refl, sym, ap, fun-ext, _∙_, subst}
 use mathlib.Core.List.{List, [], _∷_}
 use mathlib.Core.Logic.{_⊎_, inl, inr}
-use mathlib.Core.Bool.{Bool, true, false}
+use mathlib.Core.Bool.{Bool, true, false, _||_}
 use Prim.Native.Nat.{ℕ, zero, suc, _+_, _<_, _≤_}
 use native.Mathlib.Omega.{arith}
+use lib.Dec.{eqb}
 use lib.ListN.{length, getD}
 use Rattle.std.specs.Orderings.{Decides}
 use Rattle.std.specs.Changed.{picked, Told, Filtered, Unlike}
@@ -12,12 +13,18 @@ use Rattle.std.specs.Slices.{Shuffled}
 use Rattle.std.specs.shelf.Lists.{Has}
 use Rattle.std.specs.shelf.Sorted.{Rising}
 use Rattle.std.proofs.shelf.Sorted.{has-shuffled, shuffled-sym}
-use Rattle.coverage.specs.Coverage.{Above, Ascending, In, GlyphSet}
+use Rattle.std.proofs.shelf.Tests.{eqb-true}
+use borrow.Author.Tests.{eq-eqb}
+use Rattle.coverage.specs.Coverage.{Above, Ascending, among}
 
 -- each is not below the one before it, and the first not below `low`
 abbrev From : ℕ → List ℕ → Type 0
 From low [] = Unit {0}
 From low (_∷_ x xs) = (low ≤ x) × From x xs
+
+abbrev In : ℕ → List ℕ → Type 0
+In g [] = ⊥
+In g (_∷_ x xs) = (g ≡ x) ⊎ In g xs
 
 abbrev Same : ℕ → ℕ → Bool → Type 0
 Same x y r = Decides r (x ≡ y)
@@ -76,21 +83,50 @@ none : (bs : List Bool) → picked {X = ℕ} bs [] ≡ []
 none [] = refl
 none (_∷_ b bs) = refl
 
+or-true : (a : Bool) → (a || true) ≡ true
+or-true true = refl
+or-true false = refl
+
+or-cases : (a b : Bool) → (a || b) ≡ true → (a ≡ true) ⊎ (b ≡ true)
+or-cases true b h = inl refl
+or-cases false b h = inr h
+
+in-among : (g : ℕ) (xs : List ℕ) → In g xs → among xs g ≡ true
+in-among g [] i = elim i [ ]
+in-among g (_∷_ x xs) (inl e) = ap (λ b. b || among xs g) (eq-eqb x g (sym e))
+in-among g (_∷_ x xs) (inr i) = ap (λ b. eqb x g || b) (in-among g xs i) ∙ or-true (eqb x g)
+
+among-in : (g : ℕ) (xs : List ℕ) → among xs g ≡ true → In g xs
+among-in g [] h = let z : _≡_ {A = ℕ} 0 1 = cc in let n : ⊥ = omega arith in elim n [ ]
+among-in g (_∷_ x xs) h = elim (or-cases (eqb x g) (among xs g) h) [ inl a ↦ inl (sym (eqb-true x g a)) | inr a ↦ inr (among-in g xs a) ]
+
+-- two tests that hold of the same are the same
+both : (a b : Bool) → (a ≡ true → b ≡ true) → (b ≡ true → a ≡ true) → a ≡ b
+both true b f h = sym (f refl)
+both false true f h = h refl
+both false false f h = refl
+
+same-ids : (xs ys : List ℕ) → ((g : ℕ) → In g xs → In g ys) → ((g : ℕ) → In g ys → In g xs) → among ys ≡ among xs
+same-ids xs ys there back = fun-ext (λ g. both (among ys g) (among xs g) (λ h. in-among g xs (back g (among-in g ys h))) (λ h. in-among g ys (there g (among-in g xs h))))
+
+pub sorted-same : (ids sorted : List ℕ) → Shuffled ids sorted → among sorted ≡ among ids
+sorted-same ids sorted s = same-ids ids sorted (shuffled-in ids sorted s) (shuffled-in sorted ids (shuffled-sym ids sorted s))
+
+pub record Distinct (sorted glyphs : List ℕ) : Type 0 where
+  pub ordered : Ascending glyphs
+  pub same : among glyphs ≡ among sorted
+
 -- the first is always kept
-deduped : (xs ys : List ℕ) → Rising xs → Filtered (Unlike Same) [] xs ys → GlyphSet xs ys
-deduped [] ys r (bs, q, l, t, e) = subst (GlyphSet []) (sym (e ∙ none bs)) (record { ordered = tt; complete = λ g i. i; sound = λ g i. i })
+pub deduped : (xs ys : List ℕ) → Rising xs → Filtered (Unlike Same) [] xs ys → Distinct xs ys
+deduped [] ys r (bs, q, l, t, e) = subst (Distinct []) (sym (e ∙ none bs)) (record { ordered = tt; same = refl })
 deduped (_∷_ x xs) ys r ([], q, l, t, e) = let n : ⊥ = omega arith in elim n [ ]
 deduped (_∷_ x xs) ys r (_∷_ b bs, q, l, (j, (s, f), t), e) =
     let t′ : Told (Unlike Same) (x ∷ []) bs xs q = subst (λ p. Told (Unlike Same) p bs xs q) f t in
     let kept : ys ≡ x ∷ picked bs xs = e ∙ ap (λ c. picked (c ∷ bs) (x ∷ xs)) s in
-    subst (GlyphSet (x ∷ xs)) (sym kept)
-    (record { ordered = above x bs xs q (rising-from x xs r) t′
-            ; complete = λ g i. elim i [ inl a ↦ inl a | inr a ↦ complete g x bs xs q (omega arith) t′ a ]
-            ; sound = λ g i. elim i [ inl a ↦ inl a | inr a ↦ inr (sound g bs xs a) ] })
-
-pub sorted-glyphs : (ids sorted glyphs : List ℕ) → Shuffled ids sorted → Rising sorted → Filtered (Unlike Same) [] sorted glyphs → GlyphSet ids glyphs
-sorted-glyphs ids sorted glyphs s r f =
-    let d = deduped sorted glyphs r f in
-    record { ordered = d .ordered
-           ; complete = λ g i. d .complete g (shuffled-in ids sorted s g i)
-           ; sound = λ g i. shuffled-in sorted ids (shuffled-sym ids sorted s) g (d .sound g i) }
+    subst (Distinct (x ∷ xs)) (sym kept)
+    (record {
+      ordered = above x bs xs q (rising-from x xs r) t′;
+      same = same-ids (x ∷ xs) (x ∷ picked bs xs)
+          (λ g i. elim i [ inl a ↦ inl a | inr a ↦ complete g x bs xs q (omega arith) t′ a ])
+          (λ g i. elim i [ inl a ↦ inl a | inr a ↦ inr (sound g bs xs a) ]);
+    })
