@@ -18,5 +18,6 @@ uint24 n = record { value = n % 256 ^ 3; small = mod-lt n (lit< tt) }
 abbrev pub tag-bytes : Tag → List ℕ
 tag-bytes t = t .0
 
+-- the tag that bytes are
 abbrev pub tag : List ℕ → Tag
 tag bs = record { 0 = bs }

@@ -1,4 +1,5 @@
-// A number of three bytes made from a u32 and turned back into one, and it and a tag as scalars.
+// What the kinds that are structs do: a number of three bytes is made from a u32 and turned back into one, tags
+// are compared, and both are scalars.
 ghost use mathlib.Core.Path.{_≡_};
 ghost use mathlib.Core.Bool.{cond, false};
 ghost use Prim.Native.Nat.{_-_, _^_};
@@ -25,6 +26,7 @@ impl Uint24 {
         }
     }
 
+    // The number as a u32.
     pub fn to_u32(self) -> u32
         ensures { λ r. ⌜ r ≡ value-of self ⌝ }
     {
