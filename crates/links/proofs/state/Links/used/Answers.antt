@@ -1,0 +1,9 @@
+use native.Mathlib.Omega.{arith}
+use Rattle.links.proofs.Reading.{used-is}
+use Rattle.links.proofs.state.Links.used.Needs as need
+
+pub sub-result : need.sub-result
+sub-result c = omega (arith, used-is (c .args .self .now))
+
+pub returns : need.returns
+returns c = record { answer = omega (arith, used-is (c .args .self .now)) }
