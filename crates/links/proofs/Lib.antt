@@ -9,3 +9,4 @@ pub mod AppendAll
 pub mod Fresh
 pub mod Step
 pub mod Compare
+pub mod Feed

@@ -7,6 +7,7 @@ use crate::chains::Chain;
 use link::Link;
 
 pub mod edits;
+pub mod feeds;
 pub mod iters;
 pub mod reads;
 
