@@ -1,5 +1,6 @@
 // What links feed to the hash of their object.
 ghost use mathlib.Core.Path.{_≡_};
+ghost use mathlib.Core.List.{List};
 ghost use Rattle.fnv.specs.Fnv.{hashed-from};
 ghost use Rattle.link.specs.Feed.{link-feed, links-feed, whence-code};
 ghost use Rattle.links.specs.Meaning.{list-at};
@@ -10,9 +11,11 @@ use link::Link;
 use link::OffsetWhence;
 
 impl Links {
-    // Feeds the links of the list in their order, and nothing where there is no such list.
+    // Feeds the links of the list in their order, and nothing where there is no such list. A list of the same
+    // links, here or elsewhere, feeds alike.
     pub fn feed(&self, list: usize, hasher: &mut FnvHasher)
         ensures state { λ _. ⌜ now (hasher .exit) .0 ≡ hashed-from (now (hasher .entry) .0) (links-feed (list-at (now (self .entry)) list)) ⌝ }
+        ensures alike { λ _. ⌜ ((links : List Link) → links ≡ list-at (now (self .entry)) list → now (hasher .exit) .0 ≡ hashed-from (now (hasher .entry) .0) (links-feed links)) ⌝ }
     {
         for link in self.iter(list) {
             feed_link(hasher, link);
@@ -20,7 +23,7 @@ impl Links {
     }
 }
 
-// Each field in a fixed number of bytes, so that no two links feed alike.
+// Each field in a fixed number of bytes.
 fn feed_link(hasher: &mut FnvHasher, link: Link)
     ensures state { λ _. ⌜ now (hasher .exit) .0 ≡ hashed-from (now (hasher .entry) .0) (link-feed link) ⌝ }
 {

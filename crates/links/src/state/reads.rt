@@ -1,6 +1,6 @@
 // What can be read: the links of a list one by one, its length and its last link, and how many cells are used.
 ghost use mathlib.Core.Path.{_≡_};
-ghost use Prim.Native.Nat.{_-_};
+ghost use Prim.Native.Nat.{_-_, _≤_};
 ghost use lib.ListN.{length};
 ghost use Rattle.std.specs.Options.{mapped};
 ghost use Rattle.std.specs.Orderings.{Decides};
@@ -52,9 +52,10 @@ impl Links {
         Some(self.links[chain.last])
     }
 
-    // How many cells hold a link.
+    // How many cells hold a link: never more than there are.
     pub fn used(&self) -> usize
         ensures answer { λ r. ⌜ r ≡ used (now (self .entry)) ⌝ }
+        ensures bound { λ r. ⌜ r ≤ cells (now (self .entry)) ⌝ }
     {
         self.nexts.len() - self.free.count
     }

@@ -18,6 +18,5 @@ loop-link-again c =
 
 pub returns : need.returns
 returns c =
-    record {
-      state = ap (λ (l : List Link). hashed-from (c .loop-link .hasher .0) (links-feed l)) (sym (c .in-None .ensures tt .steps .0)) ∙ c .loop-link .inv;
-    }
+    let all = ap (λ (l : List Link). hashed-from (c .loop-link .hasher .0) (links-feed l)) (sym (c .in-None .ensures tt .steps .0)) ∙ c .loop-link .inv in
+    record { state = all; alike = λ links e. all ∙ ap (λ (l : List Link). hashed-from (c .args .hasher .now .0) (links-feed l)) (sym e) }
