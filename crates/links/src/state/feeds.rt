@@ -27,14 +27,11 @@ impl Links {
 fn feed_link(hasher: &mut FnvHasher, link: Link)
     ensures state { λ _. ⌜ now (hasher .exit) .0 ≡ hashed-from (now (hasher .entry) .0) (link-feed link) ⌝ }
 {
+    let width = link.width.size() as u8;
+    let signed = u8::from(link.is_signed);
+    let whence = whence_byte(link.whence);
     let number = link.objidx.0 as u64;
-    hasher.write(
-        &[
-            link.width.size() as u8,
-            u8::from(link.is_signed),
-            whence_byte(link.whence),
-        ],
-    );
+    hasher.write(&[width, signed, whence]);
     hasher.write(&link.bias.to_be_bytes());
     hasher.write(&link.position.to_be_bytes());
     hasher.write(&number.to_be_bytes());

@@ -64,7 +64,7 @@ impl Links {
     pub fn cells(&self) -> usize
         ensures answer { λ r. ⌜ r ≡ cells (now (self .entry)) ⌝ }
     {
-        self.nexts.len()
+        self.links.len()
     }
 
     // Whether both lists exist and have the same links in the same order.
