@@ -19,11 +19,11 @@ impl Chain {
         count: 0,
     };
 
-    // The cell that lies n steps past the first.
+    // The cell that lies n steps past the first. It takes n steps.
     pub(crate) fn cell(self, nexts: &Vec<usize>, n: usize) -> usize
         requires inside { ⌜ Inside (vec-items (now nexts)) self ⌝ }
         requires within { ⌜ n < self .count ⌝ }
-        ensures { λ r. ⌜ r ≡ hop (vec-items (now (nexts .entry))) (self .first) n ⌝ }
+        ensures answer { λ r. ⌜ r ≡ hop (vec-items (now (nexts .entry))) (self .first) n ⌝ }
     {
         let mut at = self.first;
         for _i in 0..n {
@@ -32,19 +32,19 @@ impl Chain {
         at
     }
 
-    // The first n cells, and the rest.
+    // The first n cells, and the rest. It takes n steps, so that nothing is walked at 0.
     pub(crate) fn split(self, nexts: &Vec<usize>, n: usize) -> (Chain, Chain)
         requires inside { ⌜ Inside (vec-items (now nexts)) self ⌝ }
         requires within { ⌜ n ≤ self .count ⌝ }
         ensures front { λ r. ⌜ r .0 ≡ front (vec-items (now (nexts .entry))) self n ⌝ }
         ensures back { λ r. ⌜ r .1 ≡ back (vec-items (now (nexts .entry))) self n ⌝ }
     {
-        let mut last = self.first;
-        let mut next = self.first;
-        if n > 0 {
-            last = self.cell(nexts, n - 1);
-            next = nexts[last];
-        }
+        let (last, next) = if n == 0 {
+            (self.first, self.first)
+        } else {
+            let last = self.cell(nexts, n - 1);
+            (last, nexts[last])
+        };
         (
             Chain {
                 first: self.first,
@@ -59,7 +59,7 @@ impl Chain {
         )
     }
 
-    // This chain and then the other.
+    // This chain and then the other, in constant time.
     pub(crate) fn join(self, nexts: &mut Vec<usize>, other: Chain) -> Chain
         requires inside { ⌜ (0 < self .count → self .last < vec-len (now nexts)) ⌝ }
         requires fits { ⌜ self .count + other .count < 2 ^ 64 ⌝ }

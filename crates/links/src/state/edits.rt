@@ -1,4 +1,5 @@
-// What makes lists and changes them: each call works on whole chains, and none allocates but `new`.
+// What makes lists and changes them. None but `new` allocates, and each takes constant time but `new` and
+// `cut`, since it moves whole chains or one cell.
 ghost use mathlib.Core.Path.{_≡_};
 ghost use mathlib.Core.Bool.{_&&_, not, cond};
 ghost use mathlib.Core.List.{[], _∷_, _++_};
@@ -64,7 +65,8 @@ impl Links {
         true
     }
 
-    // Keeps the first n links of the list, and frees the cells of the others: false where there is no such list.
+    // Keeps the first n links of the list, and frees the cells of the others: false where there is no such
+    // list. It takes n steps.
     pub fn cut(&mut self, list: usize, n: usize) -> bool
         ensures answer { λ r. ⌜ r ≡ is-list (now (self .entry)) list ⌝ }
         ensures state { λ _. ⌜ lists (now (self .exit)) ≡ set (lists (now (self .entry))) list (take n (list-at (now (self .entry)) list)) ⌝ }

@@ -22,11 +22,11 @@ cell-at-requires c κs =
 pub index-requires : need.index-requires
 index-requires c κs =
     let s = c .args .self .now in
-    omega (arith, c .cell-at .ensures, s .sized, s .nexts .ok .0, read-inside s (c .args .list) (c .index-chain .result .now) (record { within = omega arith; read = c .index-chain .ensures }) (c .args .i) (omega arith))
+    omega (arith, c .cell-at .ensures .answer, s .sized, s .nexts .ok .0, read-inside s (c .args .list) (c .index-chain .result .now) (record { within = omega arith; read = c .index-chain .ensures }) (c .args .i) (omega arith))
 
 pub returns : need.returns
 returns c =
     let s = c .args .self .now in
     let v = c .index .result .now in
-    let there = subst (λ (k : ℕ). v ≡ getD (links-of s) k v) (c .cell-at .ensures) (c .index .ensures) in
+    let there = subst (λ (k : ℕ). v ≡ getD (links-of s) k v) (c .cell-at .ensures .answer) (c .index .ensures) in
     record { answer = get-some s (c .args .list) (c .index-chain .result .now) (record { within = omega arith; read = c .index-chain .ensures }) (c .args .i) v (omega arith) there }
