@@ -1,0 +1,7 @@
+use native.Mathlib.Omega.{arith}
+use Rattle.links.specs.Meaning.{cells}
+use Rattle.links.proofs.state.Links.cells.Needs as need
+
+pub returns : need.returns
+unfolding cells
+returns c = record { answer = omega (arith, c .args .self .now .sized) }
