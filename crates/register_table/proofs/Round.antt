@@ -6,9 +6,6 @@ use Rattle.std.proofs.shelf.Ways.{tells}
 use Rattle.register_table.specs.Round.{ahead, far}
 
 module _ (n : ℕ) where
-  pub ahead-less : (s t : ℕ) → s < n → t < n → ahead n s t < n
-  ahead-less s t a b = grind (arith, tells)
-
   pub following-less : (k : ℕ) → k < n → ahead n k 1 < n
   following-less k a = grind (arith, tells)
 

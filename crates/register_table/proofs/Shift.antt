@@ -23,7 +23,7 @@ use Rattle.register_table.proofs.Search.{OpenOf, ReachedOf, far-more}
 -- The gap g has come from the cell a, and the walk to the cell k. Each pair but the one in the gap is reached; a pair
 -- between the gap and k has a search that begins after the gap; and the cells but for the gap hold what those of the
 -- beginning held but for a.
-pub record Walk (n : ℕ) (bs : List Cell) (a : ℕ) (cs : List Cell) (g k : ℕ) : Type 0 where
+pub record Gap (n : ℕ) (bs : List Cell) (a : ℕ) (cs : List Cell) (g k : ℕ) : Type 0 where
   pub long : length cs ≡ n
   pub start : a < n
   pub gap : g < n
@@ -49,7 +49,7 @@ held-less cs k e at = elim (cases-lt k (length cs)) [
 ]
 
 module _ (n : ℕ) (bs : List Cell) (a : ℕ) where
-  module _ (cs : List Cell) (g k : ℕ) (w : Walk n bs a cs g k) where
+  module _ (cs : List Cell) (g k : ℕ) (w : Gap n bs a cs g k) where
     gap-less : g < length cs
     gap-less = omega (arith, w .long, w .gap)
 
@@ -77,7 +77,7 @@ module _ (n : ℕ) (bs : List Cell) (a : ℕ) where
       ]
 
       -- a pair whose search begins after the gap stays
-      stays : far n (e .hash % n) k < far n g k → Walk n bs a cs g (ahead n k 1)
+      stays : far n (e .hash % n) k < far n g k → Gap n bs a cs g (ahead n k 1)
       stays l = record {
         long = w .long;
         start = w .start;
@@ -98,7 +98,7 @@ module _ (n : ℕ) (bs : List Cell) (a : ℕ) where
       }
 
       -- any other moves into it
-      moves : far n g k ≤ far n (e .hash % n) k → Walk n bs a (set cs g (Held e)) k (ahead n k 1)
+      moves : far n g k ≤ far n (e .hash % n) k → Gap n bs a (set cs g (Held e)) k (ahead n k 1)
       moves l =
           let as-full = full-set cs g (Held e) gap-less gap-full refl in
           let home-less : e .hash % n < n = mod-lt (e .hash) (omega (arith, w .start)) in
@@ -123,9 +123,9 @@ module _ (n : ℕ) (bs : List Cell) (a : ℕ) where
             between = λ v low high. absurd (omega (arith, more, low, high));
           }
 
-      pub goes : Walk n bs a (shifted cs g k e) (gap-after cs g k e) (ahead n k 1)
+      pub goes : Gap n bs a (shifted cs g k e) (gap-after cs g k e) (ahead n k 1)
       goes =
-          subst (λ m. Walk n bs a (cond (goes-over m g k e) (set cs g (Held e)) cs) (cond (goes-over m g k e) k g) (ahead n k 1)) (sym (w .long))
+          subst (λ m. Gap n bs a (cond (goes-over m g k e) (set cs g (Held e)) cs) (cond (goes-over m g k e) k g) (ahead n k 1)) (sym (w .long))
           (elim (cases-bool (goes-over n g k e)) [
             | inl over ↦ rw over (moves (leb-true _ _ over))
             | inr not-over ↦ rw not-over (stays (leb-false _ _ not-over))
@@ -183,7 +183,7 @@ module _ (n : ℕ) (bs : List Cell) (a : ℕ) where
     pub without : a < length bs → Without bs a (set cs g Free)
     without al p = omega (arith, w .counts p, count-set p cs g Free gap-less, count-set p bs a Free al)
 
-  pub begins : length bs ≡ n → a < n → full (getD bs a Free) ≡ true → filled bs < n → ((m : ℕ) → ReachedOf n bs m) → Walk n bs a bs a (ahead n a 1)
+  pub begins : length bs ≡ n → a < n → full (getD bs a Free) ≡ true → filled bs < n → ((m : ℕ) → ReachedOf n bs m) → Gap n bs a bs a (ahead n a 1)
   begins long al fa some ok =
       let z = far-itself n a al in
       let more : far n a (ahead n a 1) ≡ far n a a + 1 =

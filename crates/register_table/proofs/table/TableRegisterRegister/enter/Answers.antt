@@ -1,12 +1,13 @@
 use mathlib.Core.Path.{sym}
 use native.Mathlib.Omega.{arith}
-use Prim.Native.Nat.{ℕ}
+use Prim.Native.Nat.{ℕ, _≤_}
+use lib.ListN.{length}
 use Rattle.link.specs.declared.ObjIdx.{ObjIdx}
 use Rattle.register.proofs.Listed.{fits-held, entered-held, fits-new, fits-full, entered-full}
 use Rattle.register_table.specs.Cells.{entries}
 use Rattle.register_table.specs.declared.cells.Entry.{Entry}
 use Rattle.register_table.proofs.Tally.{length-entries}
-use Rattle.register_table.proofs.Calls.{among-none, among-some, put-reached, put-filled, put-once, put-entered}
+use Rattle.register_table.proofs.Calls.{among-none, among-some, put}
 use Rattle.register_table.proofs.table.TableRegisterRegister.enter.Needs as need
 
 abbrev pair : ℕ → ObjIdx → Entry
@@ -24,28 +25,19 @@ returns-then-self c =
     let cs = c .args .self .now .cells .items in
     let f = rw (c .deref .ensures .value) at (c .in-Err .ensures tt) in
     let none = among-none cs (c .args .hash) (c .args .number .0) (f .2) in
-    let l = length-entries cs in
-    record { answer = sym (fits-full (entries cs) _ _ _ none (omega (arith, l, c .args .self .now .counted, c .if-self .taken))); register = entered-full (entries cs) _ _ _ none (omega (arith, l, c .args .self .now .counted, c .if-self .taken)) }
+    let at-capacity : c .args .self .now .capacity ≤ length (entries cs) = omega (arith, length-entries cs, c .args .self .now .counted, c .if-self .taken) in
+    record { answer = sym (fits-full (entries cs) _ _ _ none at-capacity); register = entered-full (entries cs) _ _ _ none at-capacity }
 
 pub ghost-self : need.ghost-self
 ghost-self c =
-    let cs = c .args .self .now .cells .items in
-    let e = pair (c .args .hash) (c .args .number) in
-    let f = rw (c .deref .ensures .value) at (c .in-Err .ensures tt) in (
-      put-reached cs (c .in-Err .at) e (f .0) (f .1) (c .args .self .now .reached) (f .3),
-      (
-        put-once cs (c .in-Err .at) e (f .0) (f .1) (c .args .self .now .once) (f .2),
-        (omega (arith, put-filled cs (c .in-Err .at) e (f .0) (f .1), c .args .self .now .counted), (omega arith, (omega arith, tt))),
-      ),
-    )
+    let t = put (c .args .self .now .cells .items) (c .in-Err .at) (pair (c .args .hash) (c .args .number)) (c .args .self .now .reached) (c .args .self .now .once) (rw (c .deref .ensures .value) at (c .in-Err .ensures tt)) in
+    (t .reached, (t .once, (omega (arith, t .more, c .args .self .now .counted), (omega arith, (omega arith, tt)))))
 
 pub returns : need.returns
 returns c =
     let cs = c .args .self .now .cells .items in
-    let e = pair (c .args .hash) (c .args .number) in
-    let f = rw (c .deref .ensures .value) at (c .in-Err .ensures tt) in
-    let l = length-entries cs in
+    let t = put cs (c .in-Err .at) (pair (c .args .hash) (c .args .number)) (c .args .self .now .reached) (c .args .self .now .once) (rw (c .deref .ensures .value) at (c .in-Err .ensures tt)) in
     record {
-      answer = sym (fits-new (entries cs) _ _ _ (omega (arith, l, c .args .self .now .counted)));
-      register = put-entered cs (c .in-Err .at) e (f .0) (f .1) _ (f .2) (omega (arith, c .args .self .now .counted));
+      answer = sym (fits-new (entries cs) _ _ _ (omega (arith, length-entries cs, c .args .self .now .counted)));
+      register = t .enters _ (omega (arith, c .args .self .now .counted));
     }
