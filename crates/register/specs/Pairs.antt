@@ -46,6 +46,10 @@ abbrev pub among : List (ℕ × ℕ) → ℕ → ℕ → Bool
 among [] h n = false
 among (_∷_ p ps) h n = same-pair (p .0) (p .1) h n || among ps h n
 
+-- what a list of pairs means, with room for n
+abbrev pub pairs-of : List (ℕ × ℕ) → ℕ → Pairs
+pairs-of xs n = record { has = among xs; count = length xs; capacity = n }
+
 -- whether no pair stands twice in a list
 abbrev pub distinct : List (ℕ × ℕ) → Bool
 distinct [] = true
