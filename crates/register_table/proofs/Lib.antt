@@ -1,0 +1,6 @@
+pub mod Round
+pub mod Tally
+pub mod Search
+pub mod Least
+pub mod Shift
+pub mod Calls

@@ -1,0 +1,51 @@
+use mathlib.Core.Path.{sym}
+use native.Mathlib.Omega.{arith}
+use Prim.Native.Nat.{ℕ}
+use Rattle.link.specs.declared.ObjIdx.{ObjIdx}
+use Rattle.register.proofs.Listed.{fits-held, entered-held, fits-new, fits-full, entered-full}
+use Rattle.register_table.specs.Cells.{entries}
+use Rattle.register_table.specs.declared.cells.Entry.{Entry}
+use Rattle.register_table.proofs.Tally.{length-entries}
+use Rattle.register_table.proofs.Calls.{among-none, among-some, put-reached, put-filled, put-once, put-entered}
+use Rattle.register_table.proofs.table.TableRegisterRegister.enter.Needs as need
+
+abbrev pair : ℕ → ObjIdx → Entry
+pair h n = record { hash = h; number = n }
+
+pub returns-in-rest : need.returns-in-rest
+returns-in-rest c =
+    let cs = c .args .self .now .cells .items in
+    let f = rw (c .deref .ensures .value) at (c .in-rest .ensures tt) in
+    let held = among-some cs (c .args .hash) (c .args .number .0) (c .in-rest .field-0) (f .0) (f .1) in
+    record { answer = sym (fits-held (entries cs) _ _ _ held); register = entered-held (entries cs) _ _ _ held }
+
+pub returns-then-self : need.returns-then-self
+returns-then-self c =
+    let cs = c .args .self .now .cells .items in
+    let f = rw (c .deref .ensures .value) at (c .in-Err .ensures tt) in
+    let none = among-none cs (c .args .hash) (c .args .number .0) (f .2) in
+    let l = length-entries cs in
+    record { answer = sym (fits-full (entries cs) _ _ _ none (omega (arith, l, c .args .self .now .counted, c .if-self .taken))); register = entered-full (entries cs) _ _ _ none (omega (arith, l, c .args .self .now .counted, c .if-self .taken)) }
+
+pub ghost-self : need.ghost-self
+ghost-self c =
+    let cs = c .args .self .now .cells .items in
+    let e = pair (c .args .hash) (c .args .number) in
+    let f = rw (c .deref .ensures .value) at (c .in-Err .ensures tt) in (
+      put-reached cs (c .in-Err .at) e (f .0) (f .1) (c .args .self .now .reached) (f .3),
+      (
+        put-once cs (c .in-Err .at) e (f .0) (f .1) (c .args .self .now .once) (f .2),
+        (omega (arith, put-filled cs (c .in-Err .at) e (f .0) (f .1), c .args .self .now .counted), (omega arith, (omega arith, tt))),
+      ),
+    )
+
+pub returns : need.returns
+returns c =
+    let cs = c .args .self .now .cells .items in
+    let e = pair (c .args .hash) (c .args .number) in
+    let f = rw (c .deref .ensures .value) at (c .in-Err .ensures tt) in
+    let l = length-entries cs in
+    record {
+      answer = sym (fits-new (entries cs) _ _ _ (omega (arith, l, c .args .self .now .counted)));
+      register = put-entered cs (c .in-Err .at) e (f .0) (f .1) _ (f .2) (omega (arith, c .args .self .now .counted));
+    }

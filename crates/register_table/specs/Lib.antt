@@ -1,0 +1,4 @@
+pub mod Round
+pub mod Cells
+pub mod Shift
+pub mod Table
