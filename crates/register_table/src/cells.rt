@@ -6,19 +6,19 @@ use link::ObjIdx;
 
 // A pair that is held.
 #[derive(Clone, Copy)]
-pub struct Entry {
+pub(crate) struct Entry {
     pub hash: u64,
     pub number: ObjIdx,
 }
 
 #[derive(Clone, Copy)]
-pub enum Cell {
+pub(crate) enum Cell {
     Free,
     Held(Entry),
 }
 
 // The cell at which the search for a hash begins.
-pub fn home(hash: u64, size: usize) -> usize
+pub(crate) fn home(hash: u64, size: usize) -> usize
     requires { ⌜ 0 < size ⌝ }
     ensures answer { λ r. ⌜ r ≡ hash % size ⌝ }
     ensures within { λ r. ⌜ r < size ⌝ }
@@ -27,7 +27,7 @@ pub fn home(hash: u64, size: usize) -> usize
 }
 
 // The cell that follows: the first one follows the last.
-pub fn following(at: usize, size: usize) -> usize
+pub(crate) fn following(at: usize, size: usize) -> usize
     requires { ⌜ at < size ⌝ }
     ensures answer { λ r. ⌜ r ≡ ahead size at 1 ⌝ }
     ensures within { λ r. ⌜ r < size ⌝ }
@@ -36,7 +36,7 @@ pub fn following(at: usize, size: usize) -> usize
 }
 
 // How many steps it is from one cell on to another.
-pub fn distance(from: usize, to: usize, size: usize) -> usize
+pub(crate) fn distance(from: usize, to: usize, size: usize) -> usize
     requires { ⌜ from < size ⌝ ∗ ⌜ to < size ⌝ }
     ensures { λ r. ⌜ r ≡ far size from to ⌝ }
 {

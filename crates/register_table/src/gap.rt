@@ -15,7 +15,7 @@ use crate::cells::following;
 use crate::cells::home;
 
 // Takes the pair of a cell out.
-pub fn vacate(cells: &mut [Cell], start: usize)
+pub(crate) fn vacate(cells: &mut [Cell], start: usize)
     requires within { ⌜ start < length (now cells) ⌝ }
     requires held { ⌜ full (getD (now cells) start Free) ≡ true ⌝ }
     requires free { ⌜ filled (now cells) < length (now cells) ⌝ }

@@ -9,16 +9,17 @@ use crate::cells::Entry;
 use crate::cells::following;
 use crate::cells::home;
 use link::ObjIdx;
+use link::ObjIdxPartialEq;
 
 // The cell of a pair. Where it is not held, `Err` has the free cell at which the search for it ends.
-pub fn seek(cells: &[Cell], hash: u64, number: ObjIdx) -> Result<usize, usize>
+pub(crate) fn seek(cells: &[Cell], hash: u64, number: ObjIdx) -> Result<usize, usize>
     requires free { ⌜ filled (now cells) < length (now cells) ⌝ }
     requires reached { ⌜ ((k : ℕ) → Reached (now cells) k) ⌝ }
     ensures { λ r. ⌜ Sought (now (cells .entry)) hash (number .0) r ⌝ }
 {
     let mut at = home(hash, cells.len());
     while let Cell::Held(e) = cells[at] {
-        if e.hash == hash && e.number.0 == number.0 {
+        if e.hash == hash && e.number == number {
             return Ok(at);
         }
         at = following(at, cells.len());
@@ -27,7 +28,7 @@ pub fn seek(cells: &[Cell], hash: u64, number: ObjIdx) -> Result<usize, usize>
 }
 
 // The least number held under the hash that is not below `from`.
-pub fn least(cells: &[Cell], hash: u64, from: ObjIdx) -> Option<ObjIdx>
+pub(crate) fn least(cells: &[Cell], hash: u64, from: ObjIdx) -> Option<ObjIdx>
     requires free { ⌜ filled (now cells) < length (now cells) ⌝ }
     requires reached { ⌜ ((k : ℕ) → Reached (now cells) k) ⌝ }
     ensures { λ r. ⌜ ((room : ℕ) → Next (pairs-of (entries (now (cells .entry))) room) hash (from .0) r) ⌝ }
