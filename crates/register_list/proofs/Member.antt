@@ -1,24 +1,20 @@
 -- The rows as a set of pairs: what stands in them, and what a row put in or taken out changes. Used by the proofs of `enter` and `strike`.
 use mathlib.Core.Path.{_≡_, refl, sym, ap, _∙_}
-use mathlib.Core.List.{List, [], _∷_, _++_, map, map-append}
-use mathlib.Core.Bool.{Bool, true, false}
+use mathlib.Core.List.{List, [], _∷_, _++_, map-append}
+use mathlib.Core.Bool.{true, false}
 use mathlib.Core.Logic.{inl, inr}
 use Prim.Native.Nat.{ℕ, suc, _+_, _<_}
 use native.Mathlib.Omega.{arith}
 use native.Mathlib.Numerals.{add-one}
 use lib.ListN.{length, getD, take, drop, length-map, take-append-drop}
 use Rattle.std.proofs.shelf.Ways.{tells}
-use Rattle.std.proofs.shelf.Tests.{cases-lt, and-from}
+use Rattle.std.proofs.shelf.Tests.{cases-lt}
 use Rattle.std.proofs.shelf.Lists.{getD-map, drop-more}
 use Rattle.std.specs.Holes.{inserted, removed}
 use Rattle.register.specs.Pairs.{among, distinct, pairs-of, entered, struck}
 use Rattle.register.proofs.Listed.{is, among-none, among-one, entered-put, struck-drop}
 use Rattle.register_list.specs.declared.row.Row.{Row}
-use Rattle.register_list.specs.Rows.{before, nil, pairs, Ordered, Found, Missing}
-use Rattle.register_list.proofs.Order.{places}
-
-abbrev pub pair : Row → ℕ × ℕ
-pair r = (r .hash, r .number)
+use Rattle.register_list.specs.Rows.{before, nil, pair, pairs, Ordered, Found, Missing}
 
 pub none-among : (xs : List Row) (h n : ℕ) → ((k : ℕ) → k < length xs → is (pair (getD xs k nil)) h n ≡ false) → among (pairs xs) h n ≡ false
 none-among xs h n f = among-none (pairs xs) h n (λ k d l. let m : k < length xs = omega (arith, length-map xs pair) in rw (getD-map pair xs k nil d m) (f k m))
@@ -27,10 +23,10 @@ pub one-among : (xs : List Row) (h n k : ℕ) → k < length xs → is (pair (ge
 one-among xs h n k l t = among-one (pairs xs) h n k (pair nil) (omega (arith, length-map xs pair)) (rw (getD-map pair xs k nil (pair nil) l) t)
 
 -- a row that stands before another is not it
-pub apart : (a b : Row) → before a b ≡ true → is (pair a) (b .hash) (b .number) ≡ false
+apart : (a b : Row) → before a b ≡ true → is (pair a) (b .hash) (b .number) ≡ false
 apart a b p = grind (arith, tells)
 
-pub apart-back : (a b : Row) → before b a ≡ true → is (pair a) (b .hash) (b .number) ≡ false
+apart-back : (a b : Row) → before b a ≡ true → is (pair a) (b .hash) (b .number) ≡ false
 apart-back a b p = grind (arith, tells)
 
 pub found-among : (xs : List Row) (row : Row) (p : ℕ) → Found xs row p → among (pairs xs) (row .hash) (row .number) ≡ true
@@ -54,7 +50,7 @@ ordered-distinct (x ∷ xs) o =
     grind (arith, a, r)
 
 -- the list at a place
-pub split-pairs : (xs : List Row) (p : ℕ) → pairs (take p xs) ++ pairs (drop p xs) ≡ pairs xs
+split-pairs : (xs : List Row) (p : ℕ) → pairs (take p xs) ++ pairs (drop p xs) ≡ pairs xs
 split-pairs xs p = sym (map-append pair (take p xs) (drop p xs)) ∙ ap pairs (take-append-drop p xs)
 
 pub entered-inserted : (xs : List Row) (p room : ℕ) (row : Row) → Missing xs row p → length xs < room → pairs-of (pairs (inserted xs p row)) room ≡ entered (pairs-of (pairs xs) room) (row .hash) (row .number)

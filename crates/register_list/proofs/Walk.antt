@@ -1,7 +1,7 @@
 -- The walk from a place on to the first row of a hash: the least number under it. Used by the proofs of `place` and `next_in`.
-use mathlib.Core.Path.{_≡_, refl, sym, ap, _∙_}
+use mathlib.Core.Path.{_≡_, sym, ap, _∙_}
 use mathlib.Core.List.{List}
-use mathlib.Core.Bool.{Bool, true, false}
+use mathlib.Core.Bool.{true, false}
 use mathlib.Core.Logic.{inl, inr}
 use Prim.Native.Nat.{ℕ, _+_, _-_, _<_, _≤_}
 use native.Mathlib.Omega.{arith}
@@ -9,15 +9,12 @@ use lib.ListN.{length, getD, take, drop}
 use Rattle.std.proofs.shelf.Ways.{tells}
 use Rattle.std.proofs.shelf.Tests.{cases-order, cases-lt}
 use Rattle.std.proofs.shelf.Lists.{take-rest, getD-drop, length-drop}
-use Rattle.std.specs.declared.result.Result.{Result}
-use Rattle.std.specs.declared.result.Result.the-variants.{Ok, Err}
-use Rattle.std.specs.Results.{Cases}
 use Rattle.register.specs.Pairs.{among}
 use Rattle.register.proofs.Listed.{is}
 use Rattle.register_list.specs.declared.row.Row.{Row}
-use Rattle.register_list.specs.Rows.{before, nil, pairs, Ordered, Found, Missing, Place}
-use Rattle.register_list.proofs.Order.{before-not, before-trans, places}
-use Rattle.register_list.proofs.Member.{pair, none-among, one-among}
+use Rattle.register_list.specs.Rows.{before, nil, pair, pairs, Ordered, Found, Missing, Place}
+use Rattle.register_list.proofs.Order.{before-not}
+use Rattle.register_list.proofs.Member.{none-among, one-among}
 
 itself : (a : Row) → before a a ≡ false
 itself a = grind (arith, tells)

@@ -7,9 +7,12 @@ use lib.Dec.{eqb, ltb}
 use lib.ListN.{length, getD}
 use Rattle.register_list.specs.declared.row.Row.{Row}
 
--- the pairs of the rows
+-- the pair of a row
+abbrev pub pair : Row → ℕ × ℕ
+pair r = (r .hash, r .number)
+
 abbrev pub pairs : List Row → List (ℕ × ℕ)
-pairs = map (λ (r : Row). (r .hash, r .number))
+pairs = map pair
 
 -- whether a stands before b
 abbrev pub before : Row → Row → Bool

@@ -1,7 +1,6 @@
 // A register that is a list of rows in order of number, and under one number by hash. A row is found by
 // bisection. All memory is taken when it is made.
-ghost use mathlib.Core.Path.{_≡_};
-ghost use Prim.Native.Nat.{ℕ, _≤_};
+ghost use Prim.Native.Nat.{_≤_};
 ghost use Rattle.std.specs.Of.Vec.{vec-items, vec-len, vec-cap};
 ghost use Rattle.register_list.specs.Rows.{Ordered};
 

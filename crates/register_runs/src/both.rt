@@ -15,6 +15,9 @@ use std::alloc::AllocError;
 use std::alloc::Global;
 use std::fmt;
 
+// What a match looks its key up in: shorter than the numbers go, so that some are past its end.
+const ENTRIES: [u32; 7] = [3, 1, 3, 2, 1, 3, 2];
+
 #[derive(Drop)]
 pub(crate) struct Both {
     list: ListRegister,
@@ -49,8 +52,8 @@ impl Both {
     }
 
     pub(crate) fn ask(&mut self, call: Call) -> Result<(), Difference> {
-        let list = play(&mut self.list, call);
-        let table = play(&mut self.table, call);
+        let list = play(&mut self.list, call, &ENTRIES);
+        let table = play(&mut self.table, call, &ENTRIES);
         if list != table {
             return Err(Difference { call, list, table });
         }

@@ -104,6 +104,29 @@ pub(crate) fn two_hashes(heap: Global) -> Result<Tally, Stop> {
     Ok(both.tally())
 }
 
+// The least number under the hash whose entry is the key: numbers of another key or past the entries, and those
+// under another hash, are passed over.
+pub(crate) fn least_match(heap: Global) -> Result<Tally, Stop> {
+    let mut both = Both::new(heap, 8, 16)?;
+    both.ask_all(
+        &[
+            Call::Enter(5, ObjIdx(9)),
+            Call::Enter(5, ObjIdx(4)),
+            Call::Enter(5, ObjIdx(1)),
+            Call::Enter(6, ObjIdx(0)),
+            Call::Match(5, 1),
+            Call::Match(5, 3),
+            Call::Enter(5, ObjIdx(2)),
+            Call::Match(5, 3),
+            Call::Strike(5, ObjIdx(1)),
+            Call::Match(5, 1),
+            Call::Match(6, 3),
+            Call::Match(7, 1),
+        ],
+    )?;
+    Ok(both.tally())
+}
+
 // The largest hash with the largest number, and `next` from the largest number.
 pub(crate) fn largest(heap: Global) -> Result<Tally, Stop> {
     let mut both = Both::new(heap, 4, 8)?;

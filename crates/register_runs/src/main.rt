@@ -68,6 +68,7 @@ fn compare(rt: &LibcRuntime) -> Result<(), AnyError> {
     tell(rt, "capacity 1", cases::capacity_one(heap))?;
     tell(rt, "equal hashes", cases::equal_hashes(heap))?;
     tell(rt, "one number, two hashes", cases::two_hashes(heap))?;
+    tell(rt, "least match", cases::least_match(heap))?;
     tell(rt, "largest hash and number", cases::largest(heap))
 }
 

@@ -1,4 +1,5 @@
 // Groups of pseudo-random calls, the same on every run.
+ghost use Prim.Native.Nat.{_<_};
 use crate::both::Both;
 use crate::both::Difference;
 use crate::both::Stop;
@@ -26,7 +27,9 @@ pub(crate) struct Ranges {
 struct Random(u64);
 
 impl Random {
-    fn below(&mut self, end: u64) -> u64 {
+    fn below(&mut self, end: u64) -> u64
+        ensures { λ r. ⌜ (0 < end → r < end) ⌝ }
+    {
         self.0 ^= self.0 << 13;
         self.0 ^= self.0 >> 7;
         self.0 ^= self.0 << 17;
@@ -36,10 +39,11 @@ impl Random {
     fn call(&mut self, ranges: &Ranges) -> Call {
         let hash = ranges.first_hash.wrapping_add(self.below(ranges.hashes));
         let number = ObjIdx(self.below(ranges.numbers) as usize);
-        match self.below(8) {
-            0..=2 => Call::Enter(hash, number),
-            3..=4 => Call::Strike(hash, number),
-            5..=6 => Call::Next(hash, number),
+        match self.below(10) {
+            0..=3 => Call::Enter(hash, number),
+            4..=5 => Call::Strike(hash, number),
+            6..=7 => Call::Next(hash, number),
+            8 => Call::Match(hash, self.below(4) as u32),
             _ => Call::Capacity,
         }
     }

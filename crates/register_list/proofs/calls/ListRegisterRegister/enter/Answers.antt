@@ -1,12 +1,11 @@
-use mathlib.Core.Path.{_≡_, sym, ap, _∙_}
+use mathlib.Core.Path.{sym}
 use Prim.Native.Nat.{_<_, _≤_}
 use native.Mathlib.Omega.{arith}
 use lib.ListN.{length, length-map}
 use Rattle.std.specs.Of.Vec.{vec-items}
-use Rattle.register.specs.Pairs.{pairs-of}
 use Rattle.register.proofs.Listed.{fits-held, fits-new, fits-full, entered-held, entered-full}
-use Rattle.register_list.specs.Rows.{pairs}
-use Rattle.register_list.proofs.Member.{pair, found-among, missing-among, entered-inserted}
+use Rattle.register_list.specs.Rows.{pair, pairs}
+use Rattle.register_list.proofs.Member.{found-among, missing-among, entered-inserted}
 use Rattle.register_list.proofs.Order.{ordered-inserted}
 use Rattle.register_list.proofs.calls.ListRegisterRegister.enter.Needs as need
 
@@ -37,5 +36,5 @@ returns c =
     let room : length xs < c .args .self .now .capacity = omega arith in
     record {
       answer = sym (fits-new (pairs xs) _ _ _ (omega arith));
-      register = ap (λ z. pairs-of (pairs z) (c .args .self .now .capacity)) (c .put .ensures .items) ∙ entered-inserted xs _ _ _ m room;
+      register = rw (c .put .ensures .items) (entered-inserted xs _ _ _ m room);
     }

@@ -1,7 +1,5 @@
-use mathlib.Core.Path.{ap, _∙_}
 use native.Mathlib.Omega.{arith}
 use Rattle.std.specs.Of.Vec.{vec-items}
-use Rattle.register.specs.Pairs.{pairs-of}
 use Rattle.register.proofs.Listed.{struck-none}
 use Rattle.register_list.specs.Rows.{pairs}
 use Rattle.register_list.proofs.Member.{missing-among, struck-removed}
@@ -17,7 +15,7 @@ pub returns-in-Ok : need.returns-in-Ok
 returns-in-Ok c =
     let xs = vec-items (c .args .self .now .rows) in
     let f = rw (c .deref .ensures .value) at (c .in-Ok .ensures tt .answer) in
-    record { register = ap (λ z. pairs-of (pairs z) (c .args .self .now .capacity)) (c .remove .ensures .items) ∙ struck-removed xs _ _ _ (c .args .self .now .sorted) f }
+    record { register = rw (c .remove .ensures .items) (struck-removed xs _ _ _ (c .args .self .now .sorted) f) }
 
 pub returns-in-rest : need.returns-in-rest
 returns-in-rest c =

@@ -1,11 +1,10 @@
-use mathlib.Core.Path.{_≡_, sym}
 use native.Mathlib.Omega.{arith}
 use Prim.Native.Nat.{_≤_}
 use lib.ListN.{length, length-map}
-use Rattle.std.specs.Of.Vec.{vec-items, vec-len}
+use Rattle.std.specs.Of.Vec.{vec-items}
 use Rattle.register.proofs.Listed.{counted}
-use Rattle.register_list.specs.Rows.{pairs}
-use Rattle.register_list.proofs.Member.{pair, ordered-distinct}
+use Rattle.register_list.specs.Rows.{pair, pairs}
+use Rattle.register_list.proofs.Member.{ordered-distinct}
 use Rattle.register_list.proofs.calls.ListRegisterRegister.the-impl.Needs as need
 
 pub counted-law : need.counted-law
