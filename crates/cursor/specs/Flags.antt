@@ -1,4 +1,5 @@
 -- The error flags as sets: their names, joining, and which sets are soft or hard.
+use mathlib.Core.List.{List, [], _∷_}
 use mathlib.Core.Bool.{Bool, not, _&&_, _||_}
 use Prim.Native.Nat.{ℕ}
 use lib.Dec.{eqb}
@@ -25,6 +26,16 @@ int-overflow = flags 8
 
 abbrev pub array-overflow : SerializeErrorFlags
 array-overflow = flags 16
+
+abbrev pub read-error : SerializeErrorFlags
+read-error = flags 32
+
+abbrev pub empty : SerializeErrorFlags
+empty = flags 64
+
+-- all that have a name
+abbrev pub named : List SerializeErrorFlags
+named = none ∷ other ∷ offset-overflow ∷ out-of-room ∷ int-overflow ∷ array-overflow ∷ read-error ∷ empty ∷ []
 
 -- the flags of both sets
 abbrev pub joined : SerializeErrorFlags → SerializeErrorFlags → SerializeErrorFlags

@@ -3,7 +3,7 @@
 // is hard.
 ghost use mathlib.Core.Path.{_≡_};
 ghost use mathlib.Core.Bool.{not};
-ghost use Rattle.cursor.specs.Flags.{none, out-of-room, offset-overflow, joined, same-flags, contains, soft, hard};
+ghost use Rattle.cursor.specs.Flags.{named, none, out-of-room, offset-overflow, joined, same-flags, contains, soft, hard};
 
 #[derive(Clone, Copy, PartialEq, Eq, Debug)]
 pub struct SerializeErrorFlags(pub u16);
@@ -24,6 +24,22 @@ impl SerializeErrorFlags {
     pub const SERIALIZE_ERROR_READ_ERROR: Self = Self(0x0020);
 
     pub const SERIALIZE_ERROR_EMPTY: Self = Self(0x0040);
+
+    // The sets that have a name, in the order of their bits.
+    pub fn named() -> [SerializeErrorFlags; 8]
+        ensures answer { λ r. ⌜ r ≡ named ⌝ }
+    {
+        [
+            Self::SERIALIZE_ERROR_NONE,
+            Self::SERIALIZE_ERROR_OTHER,
+            Self::SERIALIZE_ERROR_OFFSET_OVERFLOW,
+            Self::SERIALIZE_ERROR_OUT_OF_ROOM,
+            Self::SERIALIZE_ERROR_INT_OVERFLOW,
+            Self::SERIALIZE_ERROR_ARRAY_OVERFLOW,
+            Self::SERIALIZE_ERROR_READ_ERROR,
+            Self::SERIALIZE_ERROR_EMPTY,
+        ]
+    }
 
     // Joins flags to those that stand, and answers all that stand then.
     pub fn set_err(&mut self, error_type: SerializeErrorFlags) -> SerializeErrorFlags
