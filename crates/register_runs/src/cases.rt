@@ -10,6 +10,13 @@ use std::alloc::Global;
 
 const LARGEST: ObjIdx = ObjIdx(usize::MAX);
 
+// Makes the calls of new registers.
+fn fresh(heap: Global, capacity: usize, cells: usize, calls: &[Call]) -> Result<Tally, Stop> {
+    let mut both = Both::new(heap, capacity, cells)?;
+    both.ask_all(calls)?;
+    Ok(both.tally())
+}
+
 // As many pairs as the capacity, one more, a held one again, and one struck for another.
 pub(crate) fn exactly_full(heap: Global) -> Result<Tally, Stop> {
     let mut both = Both::new(heap, 8, 9)?;
@@ -36,8 +43,10 @@ pub(crate) fn exactly_full(heap: Global) -> Result<Tally, Stop> {
 
 // Every pair is declined, and none is found.
 pub(crate) fn capacity_none(heap: Global) -> Result<Tally, Stop> {
-    let mut both = Both::new(heap, 0, 0)?;
-    both.ask_all(
+    fresh(
+        heap,
+        0,
+        0,
         &[
             Call::Capacity,
             Call::Enter(1, ObjIdx(1)),
@@ -46,14 +55,15 @@ pub(crate) fn capacity_none(heap: Global) -> Result<Tally, Stop> {
             Call::Enter(0, ObjIdx(0)),
             Call::Next(0, ObjIdx(0)),
         ],
-    )?;
-    Ok(both.tally())
+    )
 }
 
 // A second pair is declined until the first is struck.
 pub(crate) fn capacity_one(heap: Global) -> Result<Tally, Stop> {
-    let mut both = Both::new(heap, 1, 2)?;
-    both.ask_all(
+    fresh(
+        heap,
+        1,
+        2,
         &[
             Call::Capacity,
             Call::Enter(1, ObjIdx(7)),
@@ -65,8 +75,7 @@ pub(crate) fn capacity_one(heap: Global) -> Result<Tally, Stop> {
             Call::Enter(1, ObjIdx(8)),
             Call::Next(1, ObjIdx(0)),
         ],
-    )?;
-    Ok(both.tally())
+    )
 }
 
 // Many numbers under one hash, entered downwards and read upwards.
@@ -89,8 +98,10 @@ pub(crate) fn equal_hashes(heap: Global) -> Result<Tally, Stop> {
 
 // The pair under one hash comes and goes without the other.
 pub(crate) fn two_hashes(heap: Global) -> Result<Tally, Stop> {
-    let mut both = Both::new(heap, 4, 8)?;
-    both.ask_all(
+    fresh(
+        heap,
+        4,
+        8,
         &[
             Call::Enter(1, ObjIdx(5)),
             Call::Enter(2, ObjIdx(5)),
@@ -100,15 +111,16 @@ pub(crate) fn two_hashes(heap: Global) -> Result<Tally, Stop> {
             Call::Next(1, ObjIdx(0)),
             Call::Next(2, ObjIdx(0)),
         ],
-    )?;
-    Ok(both.tally())
+    )
 }
 
 // The least number under the hash whose entry is the key: numbers of another key or past the entries, and those
 // under another hash, are passed over.
 pub(crate) fn least_match(heap: Global) -> Result<Tally, Stop> {
-    let mut both = Both::new(heap, 8, 16)?;
-    both.ask_all(
+    fresh(
+        heap,
+        8,
+        16,
         &[
             Call::Enter(5, ObjIdx(9)),
             Call::Enter(5, ObjIdx(4)),
@@ -123,14 +135,15 @@ pub(crate) fn least_match(heap: Global) -> Result<Tally, Stop> {
             Call::Match(6, 3),
             Call::Match(7, 1),
         ],
-    )?;
-    Ok(both.tally())
+    )
 }
 
 // The largest hash with the largest number, and `next` from the largest number.
 pub(crate) fn largest(heap: Global) -> Result<Tally, Stop> {
-    let mut both = Both::new(heap, 4, 8)?;
-    both.ask_all(
+    fresh(
+        heap,
+        4,
+        8,
         &[
             Call::Next(u64::MAX, LARGEST),
             Call::Enter(u64::MAX, LARGEST),
@@ -144,6 +157,5 @@ pub(crate) fn largest(heap: Global) -> Result<Tally, Stop> {
             Call::Next(u64::MAX, LARGEST),
             Call::Next(0, LARGEST),
         ],
-    )?;
-    Ok(both.tally())
+    )
 }
