@@ -1,4 +1,4 @@
--- A list of pairs without repetition, in whatever order, means a set: the ways to show what a register owes from what is among its list and how long it is.
+-- A list of pairs without repetition, in whatever order, means a set: the ways to show what a register owes from what is among its list and how long it is. Used by the proofs of each register.
 use mathlib.Core.Path.{_≡_, refl, sym, ap, _∙_}
 use mathlib.Core.List.{List, [], _∷_, _++_}
 use mathlib.Core.Bool.{Bool, true, false, not, cond, _&&_, _||_}
@@ -8,8 +8,8 @@ use native.Mathlib.Omega.{arith}
 use lib.Dec.{eqb}
 use lib.ListN.{length, getD}
 use Rattle.std.proofs.shelf.Ways.{tells}
-use Rattle.std.proofs.shelf.Tests.{eqb-true, and-parts, cases-bool, or-parts, or-left, or-right}
-use Rattle.register.specs.Pairs.{Pairs, pairs-of, same-pair, fits, entered, struck, among, distinct, Counted}
+use Rattle.std.proofs.shelf.Tests.{eqb-true, and-parts, cases-bool, or-left, or-right}
+use Rattle.register.specs.Pairs.{pairs-of, same-pair, fits, entered, struck, among, distinct, Counted}
 
 -- whether p is the pair h, n
 abbrev pub is : ℕ × ℕ → ℕ → ℕ → Bool
@@ -17,9 +17,6 @@ is p h n = same-pair (p .0) (p .1) h n
 
 pub is-itself : (p : ℕ × ℕ) → is p (p .0) (p .1) ≡ true
 is-itself p = grind (arith, tells)
-
-pub same-pair-sym : (h n g m : ℕ) → same-pair h n g m ≡ same-pair g m h n
-same-pair-sym h n g m = grind (arith, tells)
 
 pub is-equal : (p : ℕ × ℕ) (h n : ℕ) → is p h n ≡ true → (h ≡ p .0) × (n ≡ p .1)
 is-equal p h n t = let q = and-parts (eqb h (p .0)) (eqb n (p .1)) t in (eqb-true h (p .0) (q .0), eqb-true n (p .1) (q .1))
@@ -54,11 +51,6 @@ pub among-none : (xs : List (ℕ × ℕ)) (h n : ℕ) → ((k : ℕ) (d : ℕ ×
 among-none [] h n f = refl
 among-none (x ∷ xs) h n f = let a = f 0 x (omega arith) in let b = among-none xs h n (λ k d l. f (suc k) d (omega arith)) in grind (arith, a, b)
 
-pub none-at : (xs : List (ℕ × ℕ)) (h n : ℕ) → among xs h n ≡ false → (k : ℕ) (d : ℕ × ℕ) → k < length xs → is (getD xs k d) h n ≡ false
-none-at [] h n f k d l = absurd (omega arith)
-none-at (x ∷ xs) h n f zero d l = or-parts (is x h n) (among xs h n) f .0
-none-at (x ∷ xs) h n f (suc k) d l = none-at xs h n (or-parts (is x h n) (among xs h n) f .1) k d (omega arith)
-
 pub among-one : (xs : List (ℕ × ℕ)) (h n k : ℕ) (d : ℕ × ℕ) → k < length xs → is (getD xs k d) h n ≡ true → among xs h n ≡ true
 among-one [] h n k d l t = absurd (omega arith)
 among-one (x ∷ xs) h n zero d l t = or-left (is x h n) (among xs h n) t
@@ -75,26 +67,6 @@ distinct-split (x ∷ xs) ys p h =
     let r = distinct-split xs ys p tail in
     let first : is x (p .0) (p .1) ≡ false = grind (arith, tells, s, not-in) in
     (grind (arith, first, r), r .1)
-
-pub distinct-put : (xs ys : List (ℕ × ℕ)) (p : ℕ × ℕ) → distinct (xs ++ ys) ≡ true → among (xs ++ ys) (p .0) (p .1) ≡ false → distinct (xs ++ p ∷ ys) ≡ true
-distinct-put [] ys p a n = grind (arith, a, n)
-distinct-put (x ∷ xs) ys p a n =
-    let q = and-parts (not (among (xs ++ ys) (x .0) (x .1))) (distinct (xs ++ ys)) a in
-    let o = or-parts (is x (p .0) (p .1)) (among (xs ++ ys) (p .0) (p .1)) n in
-    let r = distinct-put xs ys p (q .1) (o .1) in
-    let s = among-put xs ys p (x .0) (x .1) in
-    let t = same-pair-sym (p .0) (p .1) (x .0) (x .1) in
-    let u = o .0 in let v = q .0 in
-    grind (arith, r, s, t, u, v)
-
-pub distinct-drop : (xs ys : List (ℕ × ℕ)) (p : ℕ × ℕ) → distinct (xs ++ p ∷ ys) ≡ true → distinct (xs ++ ys) ≡ true
-distinct-drop [] ys p a = and-parts _ _ a .1
-distinct-drop (x ∷ xs) ys p a =
-    let q = and-parts (not (among (xs ++ p ∷ ys) (x .0) (x .1))) (distinct (xs ++ p ∷ ys)) a in
-    let r = distinct-drop xs ys p (q .1) in
-    let s = among-put xs ys p (x .0) (x .1) in
-    let v = q .0 in
-    grind (arith, r, s, v)
 
 -- a list without repetition, without one of its pairs
 pub among-without : (xs ys : List (ℕ × ℕ)) (p : ℕ × ℕ) → distinct (xs ++ p ∷ ys) ≡ true → (h n : ℕ) → among (xs ++ ys) h n ≡ (among (xs ++ p ∷ ys) h n && not (is p h n))

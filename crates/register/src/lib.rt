@@ -1,6 +1,7 @@
 // The register through which equal objects are found: a set of pairs of a hash and an object's number, of
 // at most so many. Its owner chooses an implementation; code above it knows it by its meaning alone.
 ghost use mathlib.Core.Path.{_≡_};
+ghost use Rattle.register.specs.Match.{LeastMatch};
 ghost use Rattle.register.specs.Pairs.{Pairs, fits, entered, struck, Next, Counted};
 use link::ObjIdx;
 
@@ -28,4 +29,22 @@ pub trait Register {
     // How many pairs it may hold.
     fn capacity(&self) -> usize
         ensures answer { λ r. ⌜ r ≡ holds (now (self .entry)) .capacity ⌝ };
+}
+
+// The least number held under the hash whose entry in the table is the key, or none. A held number past the
+// table's end has no entry, and those after it have none either.
+pub fn least_match<R: Register>(register: &R, hash: u64, table: &[u32], key: u32) -> Option<ObjIdx>
+    ensures answer { λ o. ⌜ LeastMatch (holds (now (register .entry))) hash (now (table .entry)) key o ⌝ }
+{
+    let mut from = ObjIdx(0);
+    while let Some(number) = register.next(hash, from) {
+        if number.0 >= table.len() {
+            return None;
+        }
+        if table[number.0] == key {
+            return Some(number);
+        }
+        from = ObjIdx(number.0 + 1);
+    }
+    None
 }
