@@ -3,4 +3,4 @@ pub mod Tally
 pub mod Search
 pub mod Least
 pub mod Shift
-pub mod Calls
+pub mod Change

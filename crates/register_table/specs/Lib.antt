@@ -1,4 +1,4 @@
 pub mod Round
 pub mod Cells
 pub mod Shift
-pub mod Table
+pub mod Meaning

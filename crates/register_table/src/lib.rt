@@ -6,13 +6,13 @@ ghost use Prim.Native.Nat.{ℕ, _<_, _≤_};
 ghost use Rattle.std.specs.Of.Vec.{vec-items, vec-len};
 ghost use Rattle.register_table.specs.Cells.{filled, times, Reached};
 
+mod calls;
 mod cells;
 mod gap;
 mod probe;
-mod table;
 
+pub use calls::TableRegisterRegister;
 use cells::Cell;
-pub use table::TableRegisterRegister;
 
 #[derive(Drop)]
 pub struct TableRegister {

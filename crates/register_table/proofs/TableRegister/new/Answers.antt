@@ -5,7 +5,7 @@ use lib.ListN.{replicate}
 use Rattle.register.specs.Pairs.{pairs-of}
 use Rattle.register_table.specs.Cells.{entries, full, has, filled, times, Reached}
 use Rattle.register_table.specs.declared.cells.Cell.the-variants.{Free}
-use Rattle.register_table.proofs.Calls.{free-count, free-reached, free-entries}
+use Rattle.register_table.proofs.Change.{free-count, free-reached, free-entries}
 use Rattle.register_table.proofs.TableRegister.new.Needs as need
 
 pub ghost-result : need.ghost-result

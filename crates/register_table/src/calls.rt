@@ -3,7 +3,7 @@ ghost use mathlib.Core.Path.{_≡_};
 ghost use Prim.Native.Nat.{_+_, max};
 ghost use Rattle.std.specs.Vec.{made};
 ghost use Rattle.register.specs.Pairs.{empty};
-ghost use Rattle.register_table.specs.Table.{meaning, width};
+ghost use Rattle.register_table.specs.Meaning.{meaning, width};
 use crate::TableRegister;
 use crate::cells::Cell;
 use crate::cells::Entry;

@@ -7,8 +7,8 @@ use Rattle.register.proofs.Listed.{fits-held, entered-held, fits-new, fits-full
 use Rattle.register_table.specs.Cells.{entries}
 use Rattle.register_table.specs.declared.cells.Entry.{Entry}
 use Rattle.register_table.proofs.Tally.{length-entries}
-use Rattle.register_table.proofs.Calls.{among-none, among-some, put}
-use Rattle.register_table.proofs.table.TableRegisterRegister.enter.Needs as need
+use Rattle.register_table.proofs.Change.{among-none, among-some, put}
+use Rattle.register_table.proofs.calls.TableRegisterRegister.enter.Needs as need
 
 abbrev pair : ℕ → ObjIdx → Entry
 pair h n = record { hash = h; number = n }

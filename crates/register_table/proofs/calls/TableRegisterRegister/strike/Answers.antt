@@ -5,8 +5,8 @@ use Rattle.std.proofs.shelf.Lists.{refilled-is}
 use Rattle.register.specs.Pairs.{pairs-of}
 use Rattle.register.proofs.Listed.{struck-none}
 use Rattle.register_table.specs.Cells.{entries, filled, times, Reached}
-use Rattle.register_table.proofs.Calls.{among-none, out}
-use Rattle.register_table.proofs.table.TableRegisterRegister.strike.Needs as need
+use Rattle.register_table.proofs.Change.{among-none, out}
+use Rattle.register_table.proofs.calls.TableRegisterRegister.strike.Needs as need
 
 pub returns-in-rest : need.returns-in-rest
 returns-in-rest c =

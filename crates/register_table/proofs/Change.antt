@@ -1,4 +1,4 @@
--- What the calls of a register come to: a new table, a pair put into a free cell, and a pair taken out.
+-- What a call comes to: a new table, a pair put into a free cell, and a pair taken out.
 use mathlib.Core.Path.{_≡_, refl, sym, ap, _∙_, subst}
 use mathlib.Core.List.{List, []}
 use mathlib.Core.Bool.{Bool, true, false, cond}
