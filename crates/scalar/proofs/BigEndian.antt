@@ -33,9 +33,12 @@ number-big-endian (suc k) n =
 pub number-back : (w n : ℕ) → n < 256 ^ w → number (big-endian w n) ≡ n
 number-back w n l = number-big-endian w n ∙ mod-eq-of-lt l
 
-pub number-below : (bs : List ℕ) → Bytes bs → number bs < 256 ^ length bs
-number-below [] u = omega arith
-number-below (b ∷ bs) e = rw pow-succ' (digits-lt (e .0) (number-below bs (e .1)))
+below : (bs : List ℕ) → Bytes bs → number bs < 256 ^ length bs
+below [] u = omega arith
+below (b ∷ bs) e = rw pow-succ' (digits-lt (e .0) (below bs (e .1)))
+
+pub number-below : (w : ℕ) (bs : List ℕ) → length bs ≡ w → Bytes bs → number bs < 256 ^ w
+number-below w bs l e = rw l at (below bs e)
 
 -- only what is left below 256 ^ w counts
 pub big-endian-same : (w m n : ℕ) → m % 256 ^ w ≡ n % 256 ^ w → big-endian w m ≡ big-endian w n
@@ -48,15 +51,18 @@ big-endian-same (suc k) m n e =
     let rest = sym (digits-mod (m / 256 ^ k % 256) u) ∙ ap (λ (x : ℕ). x % 256 ^ k) p ∙ digits-mod (n / 256 ^ k % 256) v in
     ap (λ (b : ℕ). b ∷ big-endian k m) high ∙ ap (λ (bs : List ℕ). (n / 256 ^ k % 256) ∷ bs) (big-endian-same k m n rest)
 
-pub big-endian-number : (bs : List ℕ) → Bytes bs → big-endian (length bs) (number bs) ≡ bs
-big-endian-number [] u = refl
-big-endian-number (b ∷ bs) e =
+again : (bs : List ℕ) → Bytes bs → big-endian (length bs) (number bs) ≡ bs
+again [] u = refl
+again (b ∷ bs) e =
     let c = 256 ^ length bs in
     let n = b * c + number bs in
-    let first = ap (λ (x : ℕ). x % 256) (digits-div b (number-below bs (e .1))) ∙ mod-eq-of-lt (e .0) in
+    let first = ap (λ (x : ℕ). x % 256) (digits-div b (below bs (e .1))) ∙ mod-eq-of-lt (e .0) in
     ap (λ (x : ℕ). x ∷ big-endian (length bs) n) first
-    ∙ ap (λ (xs : List ℕ). b ∷ xs) (big-endian-same (length bs) n (number bs) (mul-add-mod-self-right b c (number bs)) ∙ big-endian-number bs (e .1))
+    ∙ ap (λ (xs : List ℕ). b ∷ xs) (big-endian-same (length bs) n (number bs) (mul-add-mod-self-right b c (number bs)) ∙ again bs (e .1))
+
+pub big-endian-again : (w : ℕ) (bs : List ℕ) → length bs ≡ w → Bytes bs → big-endian w (number bs) ≡ bs
+big-endian-again w bs l e = ap (λ (k : ℕ). big-endian k (number bs)) (sym l) ∙ again bs e
 
 pub notation : Notation
 notation =
-    record { long = length-big-endian; bytes = bytes-big-endian; shown = number-big-endian; back = number-back; below = number-below; again = big-endian-number }
+    record { long = length-big-endian; bytes = bytes-big-endian; shown = number-big-endian; back = number-back; below = number-below; again = big-endian-again }

@@ -25,5 +25,5 @@ pub record Notation : Type 0 where
   pub bytes : (w n : ℕ) → Bytes (big-endian w n)
   pub shown : (w n : ℕ) → number (big-endian w n) ≡ n % 256 ^ w
   pub back : (w n : ℕ) → n < 256 ^ w → number (big-endian w n) ≡ n
-  pub below : (bs : List ℕ) → Bytes bs → number bs < 256 ^ length bs
-  pub again : (bs : List ℕ) → Bytes bs → big-endian (length bs) (number bs) ≡ bs
+  pub below : (w : ℕ) (bs : List ℕ) → length bs ≡ w → Bytes bs → number bs < 256 ^ w
+  pub again : (w : ℕ) (bs : List ℕ) → length bs ≡ w → Bytes bs → big-endian w (number bs) ≡ bs
