@@ -10,3 +10,4 @@ pub mod Ending
 pub mod Reading
 pub mod New
 pub mod Run
+pub mod Sheets
