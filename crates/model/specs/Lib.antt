@@ -11,3 +11,9 @@ pub mod Reading
 pub mod New
 pub mod Run
 pub mod Sheets
+pub mod Moments
+pub mod Liveness
+pub mod Stacking
+pub mod Sharing
+pub mod Offsets
+pub mod Law
