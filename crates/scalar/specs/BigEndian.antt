@@ -15,11 +15,11 @@ abbrev pub big-endian : ℕ → ℕ → List ℕ
 big-endian zero n = []
 big-endian (suc k) n = (n / 256 ^ k % 256) ∷ big-endian k n
 
--- each is a byte
+-- each of them is a byte
 abbrev pub Bytes : List ℕ → Type 0
 Bytes bs = All (λ b. b < 256) bs
 
--- what makes it a notation: w bytes stand for a number below 256 ^ w and show it, and bytes are those of the number that they show
+-- what makes it a notation, at every width: a number has w bytes, which show what of it is below 256 ^ w, and any w bytes are those of the number that they show
 pub record Notation : Type 0 where
   pub long : (w n : ℕ) → length (big-endian w n) ≡ w
   pub bytes : (w n : ℕ) → Bytes (big-endian w n)

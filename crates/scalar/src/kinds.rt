@@ -11,5 +11,5 @@ pub struct Uint24 {
 }
 
 // Four bytes that name a table, a script, a language system or a feature.
-#[derive(Clone, Copy, PartialEq, Eq, Debug)]
+#[derive(Clone, Copy, Debug)]
 pub struct Tag(pub [u8; 4]);

@@ -13,6 +13,13 @@ pub mod buffer;
 pub mod kinds;
 pub mod numbers;
 
+pub use buffer::read_at;
+pub use buffer::write_at;
+pub use buffer::write_read;
+pub use kinds::Tag;
+pub use kinds::Uint24;
+
+// A value that stands in a file as a few bytes. Its raw form is an array of four, of which the first are used.
 pub trait Scalar: Sized {
     // How many bytes it takes, which ones stand for a value, and which value bytes stand for.
     ghost width: { ℕ };
@@ -24,7 +31,8 @@ pub trait Scalar: Sized {
     // What the type guarantees of a value.
     ghost fits: { Self → Type 0 };
 
-    law some: { 1 ≤ width };
+    // It takes one to four bytes.
+    law wide: { 1 ≤ width };
 
     law short: { width ≤ 4 };
 
@@ -54,24 +62,28 @@ pub trait Scalar: Sized {
 
 // A scalar that can hold a count.
 pub trait CountScalar: Scalar {
-    // Whether half of its values are negative, and the largest count.
+    // Whether half of its values are negative.
     ghost signed: { Bool };
 
+    // The largest count, and the value that stands for a count.
     ghost most: { ℕ };
 
-    // The value that stands for a count.
     ghost counting: { ℕ → Self };
 
+    // Its bytes hold every number that has room beside a sign, if there is one.
     law largest: { suc most ≡ cond signed (256 ^ Self·Scalar .width / 2) (256 ^ Self·Scalar .width) };
 
+    law held: { (n : ℕ) → n ≤ most → Self·Scalar .fits (counting n) };
+
+    // The bytes of a count show the count.
     law counted: { (n : ℕ) → n ≤ most → Self·Scalar .bytes (counting n) ≡ big-endian (Self·Scalar .width) n };
 
-    // The count as a value, exactly if it fits.
+    // The value that stands for a count, exactly if there is one.
     fn from_count(n: usize) -> Option<Self>
         ensures { λ r. ⌜ r ≡ cond (leb n most) (Some (counting n)) None ⌝ };
 }
 
-// Big-endian bytes are a notation for numbers, at every width.
+// Big-endian bytes are a notation for numbers, at every width: each number has its bytes, and bytes have one number.
 pub fn big_endian_holds()
     ensures { λ _. ⌜ Notation ⌝ }
 {}

@@ -54,6 +54,7 @@ pub impl Scalar for u16 as U16Scalar {
     }
 }
 
+// It stands as the u16 that has its bits.
 pub impl Scalar for i16 as I16Scalar {
     ghost width = { 2 };
 
@@ -64,17 +65,15 @@ pub impl Scalar for i16 as I16Scalar {
     ghost fits = { SFits w16 };
 
     fn size() -> usize {
-        2
+        u16::size()
     }
 
     fn raw(self) -> [u8; 4] {
-        let [a, b] = self.to_be_bytes();
-        [a, b, 0, 0]
+        self.cast_unsigned().raw()
     }
 
     fn from_raw(raw: [u8; 4]) -> i16 {
-        let [a, b, _, _] = raw;
-        i16::from_be_bytes([a, b])
+        u16::from_raw(raw).cast_signed()
     }
 }
 

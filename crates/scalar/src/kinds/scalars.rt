@@ -1,10 +1,12 @@
-// A number of three bytes made from a u32 and turned back into one, and it and a tag as scalars.
+// What the kinds that are structs do: a number of three bytes is made from a u32 and turned back into one, tags
+// are compared, and both are scalars.
 ghost use mathlib.Core.Path.{_≡_};
 ghost use mathlib.Core.Bool.{cond, false};
 ghost use Prim.Native.Nat.{_-_, _^_};
 ghost use lib.Dec.{ltb};
 ghost use lib.ListN.{length};
 ghost use Rattle.std.specs.declared.option.Option.the-variants.{Some, None};
+ghost use Rattle.std.specs.Orderings.{Decides};
 ghost use Rattle.scalar.specs.BigEndian.{number, big-endian, Bytes};
 ghost use Rattle.scalar.specs.Kinds.{value-of, uint24, tag-bytes, tag};
 use super::Tag;
@@ -24,6 +26,7 @@ impl Uint24 {
         }
     }
 
+    // The number as a u32.
     pub fn to_u32(self) -> u32
         ensures { λ r. ⌜ r ≡ value-of self ⌝ }
     {
@@ -93,3 +96,14 @@ pub impl Scalar for Tag as TagScalar {
         Tag(raw)
     }
 }
+
+// Written out, since a derived one says nothing of arrays.
+pub impl PartialEq<Tag> for Tag as TagPartialEq {
+    ghost equals = { λ x y r. Decides r (x ≡ y) };
+
+    fn eq(&self, other: &Tag) -> bool {
+        self.0 == other.0
+    }
+}
+
+pub impl Eq for Tag as TagEq {}
