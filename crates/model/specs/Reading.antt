@@ -8,7 +8,7 @@ use Rattle.cursor.specs.declared.flags.SerializeErrorFlags.{SerializeErrorFlags
 use Rattle.cursor.specs.Flags.{none, out-of-room, offset-overflow, same-flags, contains, soft}
 use Rattle.link.specs.declared.Link.{Link}
 use Rattle.link.specs.declared.ObjIdx.{ObjIdx}
-use Rattle.scalar.specs.Place.{part, write}
+use Rattle.scalar.specs.Place.{part, write, read}
 use Rattle.std.specs.Options.{mapped}
 use Rattle.std.specs.declared.option.Option.{Option}
 use Rattle.std.specs.declared.option.Option.the-variants.{Some, None}
@@ -52,9 +52,9 @@ open-length s = elim (s .opened) [ [] ↦ 0 | _∷_ o os ↦ s .head - o .head ]
 
 -- ---- bytes
 
--- the bytes of a scalar of this width at a place, from the whole memory; none if they pass its end
-abbrev pub value-at : ℕ → ℕ → State → Option (List ℕ)
-value-at width at s = elim (ltb (length (s .memory)) (at + width)) [ true ↦ None | false ↦ Some (part (s .memory) at (at + width)) ]
+-- the scalar of a width that stands at a place, from the whole memory; none if it passes the end
+abbrev pub value-at : {S : Type 0} → (List ℕ → S) → ℕ → ℕ → State → Option S
+value-at reads width at s = read reads width (s .memory) at
 
 -- the loose bytes, those below head, then those from tail to the end; nothing under a flag
 abbrev pub output : State → List ℕ

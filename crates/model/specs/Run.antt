@@ -31,7 +31,7 @@ use Rattle.model.specs.New.{new}
 pub data Reading : Type 0 where
   Error InError Successful RanOutOfRoom OffsetOverflow OnlyOffsetOverflow OnlyOverflow : Reading
   Head Tail Allocated PackedCount Length LastAddedChild : Reading
-  -- width and place
+  -- the bytes of a scalar: width and place
   ValueAt : ℕ → ℕ → Reading
   -- into so many bytes
   CopyBytes : ℕ → Reading
@@ -95,7 +95,7 @@ reading Reading.Allocated s = Amount (read.allocated s)
 reading Reading.PackedCount s = Amount (read.packed-count s)
 reading Reading.Length s = Amount (read.open-length s)
 reading Reading.LastAddedChild s = Number (last-added-child-index s)
-reading (Reading.ValueAt w n) s = Bytes (read.value-at w n s)
+reading (Reading.ValueAt w n) s = Bytes (read.value-at (λ bs. bs) w n s)
 reading (Reading.CopyBytes room) s = Bytes (read.copied room s)
 reading (Reading.ObjectAt k) s = Object (read.object k s)
 reading (Reading.RealLink k i) s = Linked (read.real-link k i s)
