@@ -54,8 +54,9 @@ Sound-state n s = Sound n (s .memory) (s .head) (s .tail) (s .flags) (s .packed)
 abbrev pub Kept : State → State → Type 0
 Kept s₀ s = drop (s₀ .tail) (s .memory) ≡ drop (s₀ .tail) (s₀ .memory)
 
+-- sound, nothing written from the tail of s₀ on, and ended only if s₀ was
 abbrev pub Good : ℕ → State → State → Type 0
-Good n s₀ s = Sound-state n s × Kept s₀ s
+Good n s₀ s = Sound-state n s × Kept s₀ s × (s .ended ≡ s₀ .ended)
 
 lowest-le : (n : ℕ) (ps : List Object) → Stacked n ps → lowest n ps ≤ n
 lowest-le n [] st = omega arith
@@ -68,7 +69,7 @@ pub flag-sound : (n : ℕ) (s : State) (f : SerializeErrorFlags) → Sound-state
 flag-sound n s f d = record { sized = d .sized; below = d .below; stacked = d .stacked; under = d .under; meets = elim (d .meets) [ inl h ↦ inl (hard-joined (s .flags) f h) | inr e ↦ inr e ]; tails = d .tails }
 
 flag-good : (n : ℕ) (s₀ s : State) (f : SerializeErrorFlags) → Good n s₀ s → Good n s₀ (flag s f)
-flag-good n s₀ s f g = (flag-sound n s f (g .0), g .1)
+flag-good n s₀ s f g = (flag-sound n s f (g .0), g .1, g .2)
 
 pub with-tails : (n : ℕ) (s : State) (os : List Object) (p : Pool) → Sound-state n s → Tails n os → Sound-state n (with-opened s os p)
 with-tails n s os p d ts = record { sized = d .sized; below = d .below; stacked = d .stacked; under = d .under; meets = d .meets; tails = ts }
@@ -99,7 +100,7 @@ ordering-good : (n : ℕ) (s₀ s : State) (k : ObjIdx) (l : Link) → Good n s�
 ordering-good n s₀ s k l g =
     let e = lend-lowest n (virtual-to k ∷ []) (l .objidx .0) (s .packed) in
     (record { sized = g .0 .sized; below = g .0 .below; stacked = lend-stacked n (virtual-to k ∷ []) (l .objidx .0) (s .packed) (g .0 .stacked); under = rw e (g .0 .under)
-      ; meets = elim (g .0 .meets) [ inl h ↦ inl h | inr f ↦ inr (f ∙ sym e) ]; tails = g .0 .tails }, g .1)
+      ; meets = elim (g .0 .meets) [ inl h ↦ inl h | inr f ↦ inr (f ∙ sym e) ]; tails = g .0 .tails }, g .1, g .2)
 
 repacking-good : (n : ℕ) (s₀ : State) (k : ObjIdx) (ls : List Link) (s : State) → Good n s₀ s → Good n s₀ (repacking k ls s .0)
 repacking-good n s₀ k [] s g = g
@@ -111,10 +112,10 @@ repacking-good n s₀ k (_∷_ l ls) s g = by-test (eqb (l .objidx .0) (k .0)) _
 
 module _ (n : ℕ) (s : State) (sound : Sound-state n s) where
   start : Good n s s
-  start = (sound, refl)
+  start = (sound, refl, refl)
 
-  retailed : (os : List Object) → Tails n os → Sound n (s .memory) (s .head) (s .tail) (s .flags) (s .packed) os × Kept s s
-  retailed os ts = (record { sized = sound .sized; below = sound .below; stacked = sound .stacked; under = sound .under; meets = sound .meets; tails = ts }, refl)
+  retailed : (os : List Object) → Tails n os → Sound n (s .memory) (s .head) (s .tail) (s .flags) (s .packed) os × Kept s s × (s .ended ≡ s .ended)
+  retailed os ts = (record { sized = sound .sized; below = sound .below; stacked = sound .stacked; under = sound .under; meets = sound .meets; tails = ts }, refl, refl)
 
   opened : Good n s (opening s .0)
   opened = retailed _ (under-end n s sound, sound .tails)
@@ -124,10 +125,10 @@ module _ (n : ℕ) (s : State) (sound : Sound-state n s) where
       let l : s .head + length bs ≤ s .tail = omega (arith, ltb-false (s .tail - s .head) (length bs) e, sound .below) in
       let u : s .tail ≤ n = under-end n s sound in
       let v : s .head + length bs ≤ length (s .memory) = omega (arith, sound .sized) in
-      (record { sized = length-write (s .memory) (s .head) bs v ∙ sound .sized; below = l; stacked = sound .stacked; under = sound .under; meets = sound .meets; tails = sound .tails }, drop-write (s .memory) (s .head) bs (s .tail) l v)
+      (record { sized = length-write (s .memory) (s .head) bs v ∙ sound .sized; below = l; stacked = sound .stacked; under = sound .under; meets = sound .meets; tails = sound .tails }, drop-write (s .memory) (s .head) bs (s .tail) l v, refl)
 
   advanced : (k : ℕ) → ltb (s .tail - s .head) k ≡ false → Good n s (advancing k s .0)
-  advanced k e = (record { sized = sound .sized; below = omega (arith, ltb-false (s .tail - s .head) k e, sound .below); stacked = sound .stacked; under = sound .under; meets = sound .meets; tails = sound .tails }, refl)
+  advanced k e = (record { sized = sound .sized; below = omega (arith, ltb-false (s .tail - s .head) k e, sound .below); stacked = sound .stacked; under = sound .under; meets = sound .meets; tails = sound .tails }, refl, refl)
 
   cleared : (k : ℕ) → ltb (s .tail - s .head) k ≡ false → Good n s (allocating k true s .0)
   cleared k e =
@@ -144,7 +145,7 @@ module _ (n : ℕ) (s : State) (sound : Sound-state n s) where
       let l : a + length bs ≤ s .tail = ltb-false (s .tail) (a + length bs) e in
       let u : s .tail ≤ n = under-end n s sound in
       let v : a + length bs ≤ length (s .memory) = omega (arith, sound .sized) in
-      (record { sized = length-write (s .memory) a bs v ∙ sound .sized; below = sound .below; stacked = sound .stacked; under = sound .under; meets = sound .meets; tails = sound .tails }, drop-write (s .memory) a bs (s .tail) l v)
+      (record { sized = length-write (s .memory) a bs v ∙ sound .sized; below = sound .below; stacked = sound .stacked; under = sound .under; meets = sound .meets; tails = sound .tails }, drop-write (s .memory) a bs (s .tail) l v, refl)
 
   keeps : {A : Type 0} (tests : State → List (Bool × SerializeErrorFlags)) (e : SerializeErrorFlags → A) (go : State → State × A) → (None-hold (tests s) → Good n s (go s .0)) → Good n s (guarded tests e go s .0)
   keeps tests e go q = guarded-keeps (Good n s) (flag-good n s) tests e go s start (λ h no. q no)
@@ -202,16 +203,16 @@ module _ (n : ℕ) (s : State) (sound : Sound-state n s) (soft : hard (s .flags)
 
   pub moved-good : Good n s (move o os s)
   moved-good =
-      (record { sized = length-write (s .memory) _ _ fits-all ∙ sound .sized; below = omega (arith, ltb-false (s .head) (o .head) over, sound .below); stacked = sound .stacked; under = sound .under; meets = sound .meets; tails = ts }, drop-write (s .memory) _ _ (s .tail) fits fits-all)
+      (record { sized = length-write (s .memory) _ _ fits-all ∙ sound .sized; below = omega (arith, ltb-false (s .head) (o .head) over, sound .below); stacked = sound .stacked; under = sound .under; meets = sound .meets; tails = ts }, drop-write (s .memory) _ _ (s .tail) fits fits-all, refl)
 
   pub new-good : (s .head ≡ o .head → ⊥) → Good n s (pack-new (moved o s) (move o os s))
   new-good ne =
       let l = ltb-false (s .head) (o .head) over in
-      (record { sized = moved-good .0 .sized; below = omega (arith, sound .below); stacked = (omega (arith, sound .below), edge-is, sound .stacked); under = omega arith; meets = inr refl; tails = ts }, moved-good .1)
+      (record { sized = moved-good .0 .sized; below = omega (arith, sound .below); stacked = (omega (arith, sound .below), edge-is, sound .stacked); under = omega arith; meets = inr refl; tails = ts }, moved-good .1, refl)
 
   twin-good : (k : ℕ) → Good n s (pack-twin (moved o s) k (move o os s))
   twin-good k =
-      (record { sized = moved-good .0 .sized; below = moved-good .0 .below; stacked = lend-stacked n (o .virtual) k (s .packed) (sound .stacked); under = rw lend-lowest (sound .under); meets = inr (edge-is ∙ sym (lend-lowest n (o .virtual) k (s .packed))); tails = ts }, moved-good .1)
+      (record { sized = moved-good .0 .sized; below = moved-good .0 .below; stacked = lend-stacked n (o .virtual) k (s .packed) (sound .stacked); under = rw lend-lowest (sound .under); meets = inr (edge-is ∙ sym (lend-lowest n (o .virtual) k (s .packed))); tails = ts }, moved-good .1, refl)
 
   shared-good : (ne : s .head ≡ o .head → ⊥) (h : ℕ) (k : Option ℕ) (r : Pairs) → Good n s (pack-shared (moved o s) h k (move o os s) r .state)
   shared-good ne h None r = new-good ne
@@ -223,7 +224,7 @@ module _ (n : ℕ) (s : State) (sound : Sound-state n s) (soft : hard (s .flags)
 
 close-good : (n : ℕ) (s : State) (sound : Sound-state n s) → hard (s .flags) ≡ false → (share : Bool) (o : Object) (os : List Object) (ts : Tails n os) (r : Pairs) → Good n s (close share o os s r .state)
 close-good n s sound soft share o os ts r =
-    let w : Good n s (with-opened s os (s .pool)) = (with-tails n s os (s .pool) sound ts, refl) in
+    let w : Good n s (with-opened s os (s .pool)) = (with-tails n s os (s .pool) sound ts, refl, refl) in
     by-test (ltb (s .head) (o .head)) _ _ (λ (x : Out (Option ObjIdx)). Good n s (x .state)) (λ e. flag-good n s (with-opened s os (s .pool)) other w)
       (λ over. by-test (eqb (s .head) (o .head)) _ _ (λ (x : Out (Option ObjIdx)). Good n s (x .state))
         (λ e. by-test (linkless o) _ _ (λ (x : Out (Option ObjIdx)). Good n s (x .state)) (λ e. w) (λ e. flag-good n s (with-opened s os (s .pool)) other w))
@@ -231,10 +232,10 @@ close-good n s sound soft share o os ts r =
 
 pub pop-pack-good : (n : ℕ) (s : State) (sound : Sound-state n s) (share : Bool) (r : Pairs) → Good n s (pop-pack share s r .state)
 pop-pack-good n s sound share r =
-    by-test (idle s) _ _ (λ (x : Out (Option ObjIdx)). Good n s (x .state)) (λ e. (sound, refl)) (λ e. first (idle-hard s e) (s .opened) (sound .tails))
+    by-test (idle s) _ _ (λ (x : Out (Option ObjIdx)). Good n s (x .state)) (λ e. (sound, refl, refl)) (λ e. first (idle-hard s e) (s .opened) (sound .tails))
   where
     first : hard (s .flags) ≡ false → (os : List Object) → Tails n os → Good n s (close-first share os s r .state)
-    first h [] ts = (sound, refl)
+    first h [] ts = (sound, refl, refl)
     first h (_∷_ o os) ts = close-good n s sound h share o os (ts .1) r
 
 -- ---- rewinding
@@ -258,7 +259,7 @@ module _ (n : ℕ) (s₀ s : State) (g : Good n s₀ s) (r : Pairs) (h t : ℕ) 
       let d = discard-stacked (s .memory) n t (s .packed) (s .pool) r l (g .0 .stacked) in
       let e = edge-lowest n (s .memory) (discard (s .memory) t (s .packed) (s .pool) r .left) (g .0 .sized) in
       (record { sized = g .0 .sized; below = omega (arith, ltb-false (s .head) h a, ltb-false t (s .tail) b, g .0 .below); stacked = d .0; under = d .1
-        ; meets = meets-so _ (discard (s .memory) t (s .packed) (s .pool) r .left) e; tails = g .0 .tails }, g .1)
+        ; meets = meets-so _ (discard (s .memory) t (s .packed) (s .pool) r .left) e; tails = g .0 .tails }, g .1, g .2)
     where
       meets-so : (x : ℕ) (ps : List Object) → x ≡ lowest n ps → (hard (cond (eqb x t) (s .flags) (joined (s .flags) other)) ≡ true) ⊎ (t ≡ lowest n ps)
       meets-so x ps e = elim (cases-bool (eqb x t))
@@ -271,16 +272,16 @@ module _ (n : ℕ) (s₀ s : State) (g : Good n s₀ s) (r : Pairs) (h t : ℕ) 
 
 pub pop-discard-good : (n : ℕ) (s : State) → Sound-state n s → (r : Pairs) → Good n s (pop-discard s r .state)
 pop-discard-good n s sound r =
-    by-test (idle s) _ _ (λ (x : Out (Unit {0})). Good n s (x .state)) (λ e. (sound, refl)) (λ e. first (s .opened) (sound .tails))
+    by-test (idle s) _ _ (λ (x : Out (Unit {0})). Good n s (x .state)) (λ e. (sound, refl, refl)) (λ e. first (s .opened) (sound .tails))
   where
     first : (os : List Object) → Tails n os → Good n s (discard-first os s r .state)
-    first [] t = (sound, refl)
-    first (_∷_ o os) t = rewind-good n s (with-opened s os (s .pool)) (with-tails n s os (s .pool) sound (t .1), refl) r (o .head) (o .tail) (t .0)
+    first [] t = (sound, refl, refl)
+    first (_∷_ o os) t = rewind-good n s (with-opened s os (s .pool)) (with-tails n s os (s .pool) sound (t .1), refl, refl) r (o .head) (o .tail) (t .0)
 
 pub revert-good : (n : ℕ) (s : State) → Sound-state n s → (p : Snapshot) (r : Pairs) → Good n s (revert-snapshot p s r .state)
 revert-good n s sound p r =
-    by-test (idle s || (not (same-slot (p .current) (open-slot s)) || ltb (length (s .memory)) (p .tail))) _ _ (λ (x : Out (Unit {0})). Good n s (x .state)) (λ e. (sound, refl))
+    by-test (idle s || (not (same-slot (p .current) (open-slot s)) || ltb (length (s .memory)) (p .tail))) _ _ (λ (x : Out (Unit {0})). Good n s (x .state)) (λ e. (sound, refl, refl))
       (λ e. let a = or-parts (idle s) _ e in let b = or-parts (not (same-slot (p .current) (open-slot s))) (ltb (length (s .memory)) (p .tail)) (a .1) in
         rewind-good n s (cut (p .«num_real_links») (p .«num_virtual_links») (with-flags s (p .errors)))
-          (record { sized = sound .sized; below = sound .below; stacked = sound .stacked; under = sound .under; meets = inr (not-hard n s sound (idle-hard s (a .0))); tails = cut-tails n (p .«num_real_links») (p .«num_virtual_links») (s .opened) (sound .tails) }, refl)
+          (record { sized = sound .sized; below = sound .below; stacked = sound .stacked; under = sound .under; meets = inr (not-hard n s sound (idle-hard s (a .0))); tails = cut-tails n (p .«num_real_links») (p .«num_virtual_links») (s .opened) (sound .tails) }, refl, refl)
           r (p .head) (p .tail) (omega (arith, sound .sized, ltb-false (length (s .memory)) (p .tail) (b .1))))
