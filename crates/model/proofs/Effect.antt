@@ -113,10 +113,10 @@ pub data Effect (c : Call) (s : State) (r : Pairs) (m : List ℕ) (a : Answer) :
   packs-entered : (o : Object) (os : List Object) → s .opened ≡ o ∷ os → Effect c s r m a os (moved o s ∷ s .packed) (s .pool) (entered r (object-hash m (moved o s)) (length (s .packed)))
   shares : (o : Object) (os ps : List Object) → s .opened ≡ o ∷ os → Relent (s .packed) ps → Effect c s r m a os ps (slot-back (s .pool) (o .slot) (length (o .real))) r
   drops : (o : Object) (os : List Object) → s .opened ≡ o ∷ os → Effect c s r m a os (s .packed) (slot-back (s .pool) (o .slot) (links-of o)) r
-  drops-back : (o : Object) (os : List Object) → s .opened ≡ o ∷ os →
+  drops-back : (o : Object) (os : List Object) → s .opened ≡ o ∷ os → m ≡ s .memory →
       Effect c s r m a os (discard (s .memory) (o .tail) (s .packed) (s .pool) r .left) (slot-back (discard (s .memory) (o .tail) (s .packed) (s .pool) r .pool) (o .slot) (links-of o)) (discard (s .memory) (o .tail) (s .packed) (s .pool) r .register)
   cuts : Turns (role c) → (x y n : ℕ) → Effect c s r m a (cut-first x y (s .opened)) (s .packed) (with-linked (s .pool) n) r
-  cuts-back : Turns (role c) → (x y n t : ℕ) →
+  cuts-back : Turns (role c) → (x y n t : ℕ) → m ≡ s .memory →
       Effect c s r m a (cut-first x y (s .opened)) (discard (s .memory) t (s .packed) (with-linked (s .pool) n) r .left) (discard (s .memory) t (s .packed) (with-linked (s .pool) n) r .pool) (discard (s .memory) t (s .packed) (with-linked (s .pool) n) r .register)
   enters : (h : ℕ) (k : ObjIdx) → c ≡ OwnerEnter h k → Effect c s r m a (s .opened) (s .packed) (s .pool) (entered r h (k .0))
   strikes : (h : ℕ) (k : ObjIdx) → c ≡ OwnerStrike h k → Effect c s r m a (s .opened) (s .packed) (s .pool) (struck r h (k .0))
@@ -172,7 +172,7 @@ module _ (c : Call) (s : State) (r : Pairs) where
 
     discard-effect : Effects c s r a (discard-first (o ∷ os) s r .state) (discard-first (o ∷ os) s r .register)
     discard-effect = by-test (flagged s || (ltb (s .head) (o .head) || ltb (o .tail) (s .tail))) _ _
-        (λ (x : Out (Unit {0})). Effect c s r (x .state .memory) a (x .state .opened) (x .state .packed) (slot-back (x .state .pool) (o .slot) (links-of o)) (x .register)) (λ e. drops o os is) (λ e. drops-back o os is)
+        (λ (x : Out (Unit {0})). Effect c s r (x .state .memory) a (x .state .opened) (x .state .packed) (slot-back (x .state .pool) (o .slot) (links-of o)) (x .register)) (λ e. drops o os is) (λ e. drops-back o os is refl)
 
   pop-plain : (a : Answer) (m : List ℕ) → Effect c s r m a (pop-pack false s r .state .opened) (pop-pack false s r .state .packed) (pop-pack false s r .state .pool) (pop-pack false s r .register)
   pop-plain a m = by-test (idle s) _ _ (λ (x : Out (Option ObjIdx)). Effect c s r m a (x .state .opened) (x .state .packed) (x .state .pool) (x .register)) (λ e. same) (λ e. first (s .opened) refl)
@@ -203,7 +203,7 @@ module _ (c : Call) (s : State) (r : Pairs) where
       by-test (idle s || (not (same-slot (p .current) (open-slot s)) || ltb (length (s .memory)) (p .tail))) _ _ (λ (x : Out (Unit {0})). Effects c s r a (x .state) (x .register)) (λ e. same)
         (λ e. by-test (flagged s₁ || (ltb (s .head) (p .head) || ltb (p .tail) (s .tail))) (out s₁ r tt) (rewound (p .head) (p .tail) s₁ r) (λ (x : Out (Unit {0})). Effects c s r a (x .state) (x .register))
           (λ e. cuts turns (p .«num_real_links») (p .«num_virtual_links») (s₁ .pool .linked))
-          (λ e. cuts-back turns (p .«num_real_links») (p .«num_virtual_links») (s₁ .pool .linked) (p .tail)))
+          (λ e. cuts-back turns (p .«num_real_links») (p .«num_virtual_links») (s₁ .pool .linked) (p .tail) refl))
 
   reverted-effect : Turns (role c) → (a : Answer) (p : Option Snapshot) → Effects c s r a (revert-to p s r .state) (revert-to p s r .register)
   reverted-effect turns a None = same
