@@ -68,7 +68,7 @@ relent-then (_∷_ p ps) (_∷_ q qs) (_∷_ r rs) a b =
     let x = a .0 in let y = b .0 in
     (record { slot = y .slot ∙ x .slot; head = y .head ∙ x .head; tail = y .tail ∙ x .tail; real = y .real ∙ x .real }, relent-then ps qs rs (a .1) (b .1))
 
-lend-relent : (vs : List Link) (k : ℕ) (ps : List Object) → Relent ps (lend vs k ps)
+pub lend-relent : (vs : List Link) (k : ℕ) (ps : List Object) → Relent ps (lend vs k ps)
 lend-relent vs k [] = tt
 lend-relent vs k (_∷_ p ps) = by-test (eqb (length ps) k) _ _ (Relent (p ∷ ps))
     (λ e. (record { slot = refl; head = refl; tail = refl; real = refl }, relent-same ps)) (λ e. (alike-same p, lend-relent vs k ps))
