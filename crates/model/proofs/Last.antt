@@ -82,39 +82,39 @@ discard-pairs m t (_∷_ o os) p r h k = by-test (ltb (o .head) t) _ _ (λ (x : 
 
 -- ---- over a call
 
-pub effect-persist : {c : Call} {s : State} {r : Pairs} {m : List ℕ} {a : Answer} {os ps : List Object} {p : Pool} {r′ : Pairs} → Effect c s r m a os ps p r′ → Persist (s .packed) ps
-effect-persist {s = s} same = persist-same (s .packed)
-effect-persist {s = s} (opens e) = persist-same (s .packed)
-effect-persist {s = s} (links o os l n e a) = persist-same (s .packed)
-effect-persist {s = s} (orders o os l n e) = persist-same (s .packed)
-effect-persist {s = s} (lends ps n t) = λ k p e l. relent-still (s .packed) ps t k p e
-effect-persist {s = s} (closes o os e) = persist-same (s .packed)
-effect-persist {s = s} (packs o os e) = persist-new (moved o s) (s .packed)
-effect-persist {s = s} (packs-entered o os e) = persist-new (moved o s) (s .packed)
-effect-persist {s = s} (shares o os ps e t) = λ k p e l. relent-still (s .packed) ps t k p e
-effect-persist {s = s} (drops o os e) = persist-same (s .packed)
-effect-persist {s = s} {r = r} (drops-back o os e w) = discard-persist (s .memory) (o .tail) (s .packed) (s .pool) r
+pub effect-persist : {c : Call} {s : State} {r : Pairs} {m : List ℕ} {t : ℕ} {a : Answer} {os ps : List Object} {p : Pool} {r′ : Pairs} → Effect c s r m t a os ps p r′ → Persist (s .packed) ps
+effect-persist {s = s} (same _) = persist-same (s .packed)
+effect-persist {s = s} (opens e _) = persist-same (s .packed)
+effect-persist {s = s} (links o os l n e _ a) = persist-same (s .packed)
+effect-persist {s = s} (orders o os l n e _) = persist-same (s .packed)
+effect-persist {s = s} (lends ps n _ t) = λ k p e l. relent-still (s .packed) ps t k p e
+effect-persist {s = s} (closes o os e _) = persist-same (s .packed)
+effect-persist {s = s} (packs o os e _) = persist-new (moved o s) (s .packed)
+effect-persist {s = s} (packs-entered o os e _) = persist-new (moved o s) (s .packed)
+effect-persist {s = s} (shares o os ps e _ t) = λ k p e l. relent-still (s .packed) ps t k p e
+effect-persist {s = s} (drops o os e _) = persist-same (s .packed)
+effect-persist {s = s} {r = r} (drops-back o os e _ w) = discard-persist (s .memory) (o .tail) (s .packed) (s .pool) r
 effect-persist {s = s} (cuts v x y n) = persist-same (s .packed)
 effect-persist {s = s} {r = r} (cuts-back v x y n t w) = discard-persist (s .memory) t (s .packed) _ r
-effect-persist {s = s} (enters h k e) = persist-same (s .packed)
-effect-persist {s = s} (strikes h k e) = persist-same (s .packed)
+effect-persist {s = s} (enters h k e _) = persist-same (s .packed)
+effect-persist {s = s} (strikes h k e _) = persist-same (s .packed)
 
-pub effect-pairs : {c : Call} {s : State} {r : Pairs} {m : List ℕ} {a : Answer} {os ps : List Object} {p : Pool} {r′ : Pairs} → Effect c s r m a os ps p r′ →
+pub effect-pairs : {c : Call} {s : State} {r : Pairs} {m : List ℕ} {t : ℕ} {a : Answer} {os ps : List Object} {p : Pool} {r′ : Pairs} → Effect c s r m t a os ps p r′ →
     (h k : ℕ) → c ≢ OwnerStrike h (index k) → k < length ps → r .has h k ≡ true → r′ .has h k ≡ true
-effect-pairs same h k ne l e = e
-effect-pairs (opens u) h k ne l e = e
-effect-pairs (links o os v n u w) h k ne l e = e
-effect-pairs (orders o os v n u) h k ne l e = e
-effect-pairs (lends ps n t) h k ne l e = e
-effect-pairs (closes o os u) h k ne l e = e
-effect-pairs (packs o os u) h k ne l e = e
-effect-pairs {s = s} {r = r} {m = m} (packs-entered o os u) h k ne l e = has-entered r (object-hash m (moved o s)) (length (s .packed)) h k e
-effect-pairs (shares o os ps u t) h k ne l e = e
-effect-pairs (drops o os u) h k ne l e = e
-effect-pairs {s = s} {r = r} (drops-back o os u w) h k ne l e = discard-pairs (s .memory) (o .tail) (s .packed) (s .pool) r h k l ∙ e
+effect-pairs (same _) h k ne l e = e
+effect-pairs (opens u _) h k ne l e = e
+effect-pairs (links o os v n u _ w) h k ne l e = e
+effect-pairs (orders o os v n u _) h k ne l e = e
+effect-pairs (lends ps n _ t) h k ne l e = e
+effect-pairs (closes o os u _) h k ne l e = e
+effect-pairs (packs o os u _) h k ne l e = e
+effect-pairs {s = s} {r = r} {m = m} (packs-entered o os u _) h k ne l e = has-entered r (object-hash m (moved o s)) (length (s .packed)) h k e
+effect-pairs (shares o os ps u _ t) h k ne l e = e
+effect-pairs (drops o os u _) h k ne l e = e
+effect-pairs {s = s} {r = r} (drops-back o os u _ w) h k ne l e = discard-pairs (s .memory) (o .tail) (s .packed) (s .pool) r h k l ∙ e
 effect-pairs (cuts v x y n) h k ne l e = e
 effect-pairs {s = s} {r = r} (cuts-back v x y n t w) h k ne l e = discard-pairs (s .memory) t (s .packed) _ r h k l ∙ e
-effect-pairs {r = r} (enters g j u) h k ne l e = has-entered r g (j .0) h k e
-effect-pairs {r = r} (strikes g j u) h k ne l e = elim (cases-bool (same-pair g (j .0) h k))
+effect-pairs {r = r} (enters g j u _) h k ne l e = has-entered r g (j .0) h k e
+effect-pairs {r = r} (strikes g j u _) h k ne l e = elim (cases-bool (same-pair g (j .0) h k))
     [ inl t ↦ let q = same-pair-is g (j .0) h k t in absurd (ne (u ∙ sym (ap (λ (x : ℕ). OwnerStrike x (index k)) (q .0) ∙ ap (λ (x : ℕ). OwnerStrike g (index x)) (q .1))))
     | inr t ↦ has-struck r g (j .0) h k t ∙ e ]

@@ -58,29 +58,29 @@ cut-length a b (_∷_ o os) = refl
 
 -- ---- over a call
 
-effect-housed : {c : Call} {s : State} {r : Pairs} {m : List ℕ} {a : Answer} {os ps : List Object} {p : Pool} {r′ : Pairs} → Effect c s r m a os ps p r′ → (n : ℕ) → Housed n (s .opened) (s .packed) (s .pool) → Housed n os ps p
-effect-housed same n d = d
-effect-housed {s = s} (opens f) n d =
+effect-housed : {c : Call} {s : State} {r : Pairs} {m : List ℕ} {t : ℕ} {a : Answer} {os ps : List Object} {p : Pool} {r′ : Pairs} → Effect c s r m t a os ps p r′ → (n : ℕ) → Housed n (s .opened) (s .packed) (s .pool) → Housed n os ps p
+effect-housed (same _) n d = d
+effect-housed {s = s} (opens f _) n d =
     let p = s .pool in
     let t = taken (length (s .opened) + length (s .packed)) (p .released) (p .used) (p .slots) (p .linked) (p .cells) (d .apart) (let x = d .limit in let y = d .within in omega arith) f in
     record { apart = let x = t .0 in omega arith; within = let x = t .1 in let y = d .limit in omega arith; limit = t .2 ∙ d .limit }
-effect-housed (links o os l k e a) n d = let z = ap length e in record { apart = let x = d .apart in omega arith; within = d .within; limit = d .limit }
-effect-housed (orders o os l k e) n d = let z = ap length e in record { apart = let x = d .apart in omega arith; within = d .within; limit = d .limit }
-effect-housed {s = s} (lends ps k t) n d = let z = relent-length (s .packed) ps t in record { apart = let x = d .apart in omega arith; within = d .within; limit = d .limit }
-effect-housed (closes o os e) n d = let z = ap length e in record { apart = let x = d .apart in omega arith; within = d .within; limit = d .limit }
-effect-housed (packs o os e) n d = let z = ap length e in record { apart = let x = d .apart in omega arith; within = d .within; limit = d .limit }
-effect-housed (packs-entered o os e) n d = let z = ap length e in record { apart = let x = d .apart in omega arith; within = d .within; limit = d .limit }
-effect-housed {s = s} (shares o os ps e t) n d = let z = ap length e in let y = relent-length (s .packed) ps t in record { apart = let x = d .apart in omega arith; within = d .within; limit = d .limit }
-effect-housed (drops o os e) n d = let z = ap length e in record { apart = let x = d .apart in omega arith; within = d .within; limit = d .limit }
-effect-housed {s = s} {r = r} (drops-back o os e w) n d =
+effect-housed (links o os l k e _ a) n d = let z = ap length e in record { apart = let x = d .apart in omega arith; within = d .within; limit = d .limit }
+effect-housed (orders o os l k e _) n d = let z = ap length e in record { apart = let x = d .apart in omega arith; within = d .within; limit = d .limit }
+effect-housed {s = s} (lends ps k _ t) n d = let z = relent-length (s .packed) ps t in record { apart = let x = d .apart in omega arith; within = d .within; limit = d .limit }
+effect-housed (closes o os e _) n d = let z = ap length e in record { apart = let x = d .apart in omega arith; within = d .within; limit = d .limit }
+effect-housed (packs o os e _) n d = let z = ap length e in record { apart = let x = d .apart in omega arith; within = d .within; limit = d .limit }
+effect-housed (packs-entered o os e _) n d = let z = ap length e in record { apart = let x = d .apart in omega arith; within = d .within; limit = d .limit }
+effect-housed {s = s} (shares o os ps e _ t) n d = let z = ap length e in let y = relent-length (s .packed) ps t in record { apart = let x = d .apart in omega arith; within = d .within; limit = d .limit }
+effect-housed (drops o os e _) n d = let z = ap length e in record { apart = let x = d .apart in omega arith; within = d .within; limit = d .limit }
+effect-housed {s = s} {r = r} (drops-back o os e _ w) n d =
     let z = ap length e in let y = discard-housed (s .memory) (o .tail) (s .packed) (s .pool) r in
     record { apart = let x = d .apart in let u = y .0 in let v = y .1 in omega arith; within = let v = y .1 in let x = d .within in omega arith; limit = y .2 ∙ d .limit }
 effect-housed {s = s} (cuts v x y k) n d = let z = cut-length x y (s .opened) in record { apart = let x = d .apart in omega arith; within = d .within; limit = d .limit }
 effect-housed {s = s} {r = r} (cuts-back v x y k t w) n d =
     let z = cut-length x y (s .opened) in let y = discard-housed (s .memory) t (s .packed) _ r in
     record { apart = let x = d .apart in let u = y .0 in let v = y .1 in omega arith; within = let v = y .1 in let x = d .within in omega arith; limit = y .2 ∙ d .limit }
-effect-housed (enters h k e) n d = d
-effect-housed (strikes h k e) n d = d
+effect-housed (enters h k e _) n d = d
+effect-housed (strikes h k e _) n d = d
 
 -- ---- over a run
 

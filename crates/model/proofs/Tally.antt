@@ -157,24 +157,24 @@ module _ (n : ℕ) (c : Call) (s : State) (sound : Sound-state n s) (r : Pairs) 
       subst (λ (x : List ℕ). Gain c s r x (discard (s .memory) t (s .packed) p r .left) (discard (s .memory) t (s .packed) p r .register)) (sym e)
         (record { gained = let a = d .0 in omega arith; counted = d .1; capacity = discard-capacity (s .memory) t (s .packed) p r })
 
-  effect-gain : {a : Answer} {os ps : List Object} {p : Pool} {r′ : Pairs} → Effect c s r m a os ps p r′ → Gain c s r m ps r′
-  effect-gain same = same-gain
-  effect-gain (opens e) = same-gain
-  effect-gain (links o os l k e a) = same-gain
-  effect-gain (orders o os l k e) = same-gain
-  effect-gain (lends ps k t) = relent-gain ps t
-  effect-gain (closes o os e) = same-gain
-  effect-gain (packs o os e) = record { gained = let a = kept-tally in omega arith; counted = ok; capacity = refl }
-  effect-gain (packs-entered o os e) = record
+  effect-gain : {t : ℕ} {a : Answer} {os ps : List Object} {p : Pool} {r′ : Pairs} → Effect c s r m t a os ps p r′ → Gain c s r m ps r′
+  effect-gain (same _) = same-gain
+  effect-gain (opens e _) = same-gain
+  effect-gain (links o os l k e _ a) = same-gain
+  effect-gain (orders o os l k e _) = same-gain
+  effect-gain (lends ps k _ t) = relent-gain ps t
+  effect-gain (closes o os e _) = same-gain
+  effect-gain (packs o os e _) = record { gained = let a = kept-tally in omega arith; counted = ok; capacity = refl }
+  effect-gain (packs-entered o os e _) = record
       { gained = let a = kept-tally in let b = own-gain m r (moved o s) (s .packed) in omega arith; counted = counted-entered r (object-hash m (moved o s)) (length (s .packed)) ok; capacity = refl }
-  effect-gain (shares o os ps e t) = relent-gain ps t
-  effect-gain (drops o os e) = same-gain
-  effect-gain (drops-back o os e w) = discard-gains (o .tail) (s .pool) w
+  effect-gain (shares o os ps e _ t) = relent-gain ps t
+  effect-gain (drops o os e _) = same-gain
+  effect-gain (drops-back o os e _ w) = discard-gains (o .tail) (s .pool) w
   effect-gain (cuts v x y k) = same-gain
   effect-gain (cuts-back v x y k t w) = discard-gains t _ w
-  effect-gain (enters h k e) = record
+  effect-gain (enters h k e _) = record
       { gained = let a = kept-tally in let b = entered-gain m r h (k .0) (s .packed) in let z : entry (role c) ≡ 1 = ap (λ (x : Call). entry (role x)) e in omega arith; counted = counted-entered r h (k .0) ok; capacity = refl }
-  effect-gain (strikes h k e) = record { gained = let a = kept-tally in let b = struck-gain m r h (k .0) (s .packed) ok in omega arith; counted = counted-struck r h (k .0) ok; capacity = refl }
+  effect-gain (strikes h k e _) = record { gained = let a = kept-tally in let b = struck-gain m r h (k .0) (s .packed) ok in omega arith; counted = counted-struck r h (k .0) ok; capacity = refl }
 
 -- ---- over a run
 
