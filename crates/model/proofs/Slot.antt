@@ -52,7 +52,7 @@ discard-housed m t (_∷_ o os) p r = by-test (ltb (o .head) t) _ _
     (λ e. let ih = discard-housed m t os (slot-back p (o .slot) (links-of o)) (struck r (object-hash m o) (length os)) in (ih .0 ∙ omega arith, ih .1, ih .2))
     (λ e. (refl, refl, refl))
 
-cut-length : (a b : ℕ) (os : List Object) → length (cut-first a b os) ≡ length os
+pub cut-length : (a b : ℕ) (os : List Object) → length (cut-first a b os) ≡ length os
 cut-length a b [] = refl
 cut-length a b (_∷_ o os) = refl
 
