@@ -74,10 +74,10 @@ cut-off : (n i : ℕ) (l : Link) (s t : State) (r : Pairs) → real-count (t .op
 cut-off n i l s t r u d =
     let p = snapshot t in let s₁ = cut (p .«num_real_links») (p .«num_virtual_links») (with-flags s (p .errors)) in
     by-test (idle s || (not (same-slot (p .current) (open-slot s)) || ltb (length (s .memory)) (p .tail))) _ _ (λ (x : Out (Unit {0})). Has-link (x .state .opened) n i l → x .state ≡ s)
-      (λ e k. refl)
-      (λ e. by-test (flagged s₁ || (ltb (s .head) (p .head) || ltb (p .tail) (s .tail))) (out s₁ r tt) (rewound (p .head) (p .tail) s₁ r) (λ (x : Out (Unit {0})). Has-link (x .state .opened) n i l → x .state ≡ s)
-        (λ e k. absurd (cut-short n i l (s .opened) (p .«num_real_links») (p .«num_virtual_links») d u k))
-        (λ e k. absurd (cut-short n i l (s .opened) (p .«num_real_links») (p .«num_virtual_links») d u k)))
+    (λ e k. refl)
+    (λ e. by-test (flagged s₁ || (ltb (s .head) (p .head) || ltb (p .tail) (s .tail))) (out s₁ r tt) (rewound (p .head) (p .tail) s₁ r) (λ (x : Out (Unit {0})). Has-link (x .state .opened) n i l → x .state ≡ s)
+    (λ e k. absurd (cut-short n i l (s .opened) (p .«num_real_links») (p .«num_virtual_links») d u k))
+    (λ e k. absurd (cut-short n i l (s .opened) (p .«num_real_links») (p .«num_virtual_links») d u k)))
 
 -- ---- from the adding on
 
@@ -114,7 +114,7 @@ module _ (b : Beginning) (n i : ℕ) (l : Link) (adding : Call) (before : List C
       let le = w .links n (o₀ .0) parent d₄ (o₀ .1) o₁ in
       let sr = snap-real (at b bs .opened) n (o₀ .0) d₄ (o₀ .1) in
       subst (λ (x : Option Snapshot). Has-link (revert-to x (at b ds) (run b ds .register) .state .opened) n i l → revert-to x (at b ds) (run b ds .register) .state ≡ at b ds)
-        (sym (live-taken b j ds live)) (cut-off n i l (at b ds) (at b bs) (run b ds .register) (omega arith) (omega arith)) keep
+      (sym (live-taken b j ds live)) (cut-off n i l (at b ds) (at b bs) (run b ds .register) (omega arith) (omega arith)) keep
 
   calm : (m : List Call) → Live-run b (m ++ start) → Through Keep m start → Calm b (length start) m start
   calm [] live t = tt
@@ -125,11 +125,13 @@ module _ (b : Beginning) (n i : ℕ) (l : Link) (adding : Call) (before : List C
       unturned Reverts-elsewhere p = p tt
       unturned Enters p = tt
       unturned Plain p = tt
+
       one : (c : Call) → Turning c → Live-run b (c ∷ (m ++ start)) → Keep (c ∷ (m ++ start)) → Not-older (length start) (role c) ⊎ (at b (c ∷ (m ++ start)) ≡ at b (m ++ start))
       one c (ahead p) live keep = inl (unturned (role c) p)
-      one c (back j) live keep = elim (cases-lt (length before) j)
-          [ inl u ↦ inl u
-          | inr u ↦ inr (old-revert m j live u (through-here Keep m start (t .1)) keep) ]
+      one c (back j) live keep = elim (cases-lt (length before) j) [
+        | inl u ↦ inl u
+        | inr u ↦ inr (old-revert m j live u (through-here Keep m start (t .1)) keep)
+      ]
       one c (away p) live keep = absurd (live .0)
 
   deep-start : depth (at b start) ≡ suc n → (m : List Call) → Through Keep m start → Through (λ ds. depth (at b start) ≤ depth (at b ds)) m start
@@ -139,9 +141,10 @@ module _ (b : Beginning) (n i : ℕ) (l : Link) (adding : Call) (before : List C
   -- what was packed when the link was added stays packed while it is kept
   counts : (m : List Call) → depth (at b start) ≡ suc n → Live-run b (m ++ start) → Through Keep m start → Through (λ ds. count (at b start) ≤ count (at b ds)) m start
   counts [] d live t = omega arith
-  counts (_∷_ c m) d live t =
-      (undug-here b (c ∷ (m ++ start)) (nest b (c ∷ (m ++ start)) live) start (c ∷ m) refl (deep-start d (c ∷ m) t) (calm (c ∷ m) live t) .fewer,
-       counts m d (live .1) (t .1))
+  counts (_∷_ c m) d live t = (
+    undug-here b (c ∷ (m ++ start)) (nest b (c ∷ (m ++ start)) live) start (c ∷ m) refl (deep-start d (c ∷ m) t) (calm (c ∷ m) live t) .fewer,
+    counts m d (live .1) (t .1),
+  )
 
 -- ---- to the end
 

@@ -149,8 +149,8 @@ module _ (c : Call) (s : State) (r : Pairs) where
   repacking-effect k (_∷_ l ls) ps n t = by-test (eqb (l .objidx .0) (k .0)) _ _ (λ (x : State × Result (Unit {0}) SerializeErrorFlags). Effects c s r (Done (x .1)) (x .0) r)
       (λ e. repacking-effect k ls ps n t)
       (λ e. refuse-by (λ (x : State × Result (Unit {0}) SerializeErrorFlags). Effects c s r (Done (x .1)) (x .0) r) (child-tests l (ordered ps n)) Err (ordered ps n) (λ x. repacking k ls (ordering k l x))
-        (λ f. lends ps n refl t)
-        (λ no. repacking-effect k ls (lend (virtual-to k ∷ []) (l .objidx .0) ps) (suc n) (relent-then (s .packed) ps _ t (lend-relent (virtual-to k ∷ []) (l .objidx .0) ps))))
+      (λ f. lends ps n refl t)
+      (λ no. repacking-effect k ls (lend (virtual-to k ∷ []) (l .objidx .0) ps) (suc n) (relent-then (s .packed) ps _ t (lend-relent (virtual-to k ∷ []) (l .objidx .0) ps))))
 
   -- ---- closing
 
@@ -159,8 +159,8 @@ module _ (c : Call) (s : State) (r : Pairs) where
     plain-effect : (m : List ℕ) → Effect c s r m (close false o os s r .state .head) a (close false o os s r .state .opened) (close false o os s r .state .packed) (close false o os s r .state .pool) (close false o os s r .register)
     plain-effect m = by-test (ltb (s .head) (o .head)) _ _ (λ (x : Out (Option ObjIdx)). Effect c s r m (x .state .head) a (x .state .opened) (x .state .packed) (x .state .pool) (x .register)) (λ e. closes o os is refl)
         (λ e. by-test (eqb (s .head) (o .head)) _ _ (λ (x : Out (Option ObjIdx)). Effect c s r m (x .state .head) a (x .state .opened) (x .state .packed) (x .state .pool) (x .register))
-          (λ e. by-test (linkless o) _ _ (λ (x : Out (Option ObjIdx)). Effect c s r m (x .state .head) a (x .state .opened) (x .state .packed) (x .state .pool) (x .register)) (λ e. closes o os is refl) (λ e. closes o os is refl))
-          (λ e. packs o os is refl))
+        (λ e. by-test (linkless o) _ _ (λ (x : Out (Option ObjIdx)). Effect c s r m (x .state .head) a (x .state .opened) (x .state .packed) (x .state .pool) (x .register)) (λ e. closes o os is refl) (λ e. closes o os is refl))
+        (λ e. packs o os is refl))
 
     shared-effect : (k : Option ℕ) → let x = pack-shared (moved o s) (object-hash (move o os s .memory) (moved o s)) k (move o os s) r in Effects c s r a (x .state) (x .register)
     shared-effect None = packs-entered o os is refl
@@ -170,8 +170,8 @@ module _ (c : Call) (s : State) (r : Pairs) where
     close-effect false = plain-effect (close false o os s r .state .memory)
     close-effect true = by-test (ltb (s .head) (o .head)) _ _ (λ (x : Out (Option ObjIdx)). Effects c s r a (x .state) (x .register)) (λ e. closes o os is refl)
         (λ e. by-test (eqb (s .head) (o .head)) _ _ (λ (x : Out (Option ObjIdx)). Effects c s r a (x .state) (x .register))
-          (λ e. by-test (linkless o) _ _ (λ (x : Out (Option ObjIdx)). Effects c s r a (x .state) (x .register)) (λ e. closes o os is refl) (λ e. closes o os is refl))
-          (λ e. shared-effect (twin (move o os s .memory) r _ _ (o .real) (s .packed))))
+        (λ e. by-test (linkless o) _ _ (λ (x : Out (Option ObjIdx)). Effects c s r a (x .state) (x .register)) (λ e. closes o os is refl) (λ e. closes o os is refl))
+        (λ e. shared-effect (twin (move o os s .memory) r _ _ (o .real) (s .packed))))
 
     discard-effect : Effects c s r a (discard-first (o ∷ os) s r .state) (discard-first (o ∷ os) s r .register)
     discard-effect = by-test (flagged s || (ltb (s .head) (o .head) || ltb (o .tail) (s .tail))) _ _
@@ -204,9 +204,9 @@ module _ (c : Call) (s : State) (r : Pairs) where
   revert-effect turns a p =
       let s₁ = cut (p .«num_real_links») (p .«num_virtual_links») (with-flags s (p .errors)) in
       by-test (idle s || (not (same-slot (p .current) (open-slot s)) || ltb (length (s .memory)) (p .tail))) _ _ (λ (x : Out (Unit {0})). Effects c s r a (x .state) (x .register)) (λ e. unmoved)
-        (λ e. by-test (flagged s₁ || (ltb (s .head) (p .head) || ltb (p .tail) (s .tail))) (out s₁ r tt) (rewound (p .head) (p .tail) s₁ r) (λ (x : Out (Unit {0})). Effects c s r a (x .state) (x .register))
-          (λ e. cuts turns (p .«num_real_links») (p .«num_virtual_links») (s₁ .pool .linked))
-          (λ e. cuts-back turns (p .«num_real_links») (p .«num_virtual_links») (s₁ .pool .linked) (p .tail) refl))
+      (λ e. by-test (flagged s₁ || (ltb (s .head) (p .head) || ltb (p .tail) (s .tail))) (out s₁ r tt) (rewound (p .head) (p .tail) s₁ r) (λ (x : Out (Unit {0})). Effects c s r a (x .state) (x .register))
+      (λ e. cuts turns (p .«num_real_links») (p .«num_virtual_links») (s₁ .pool .linked))
+      (λ e. cuts-back turns (p .«num_real_links») (p .«num_virtual_links») (s₁ .pool .linked) (p .tail) refl))
 
   reverted-effect : Turns (role c) → (a : Answer) (p : Option Snapshot) → Effects c s r a (revert-to p s r .state) (revert-to p s r .register)
   reverted-effect turns a None = unmoved
@@ -230,7 +230,7 @@ flagged-objects s f = record { opened = refl; packed = refl; pool = refl; head =
 put-objects : (f : Field) (s : State) → Same-objects s (put-field f s)
 put-objects f s = by-test (eqb (f .width) 0) _ _ (Same-objects s) (λ e. same-objects s)
     (λ e. by-test (ltb (largest (f .width) (f .signed)) (f .value)) _ _ (Same-objects s) (λ e. flagged-objects s _)
-      (λ e. by-test (ltb (length (s .memory)) (f .place + f .width)) _ _ (Same-objects s) (λ e. flagged-objects s _) (λ e. record { opened = refl; packed = refl; pool = refl; head = refl })))
+    (λ e. by-test (ltb (length (s .memory)) (f .place + f .width)) _ _ (Same-objects s) (λ e. flagged-objects s _) (λ e. record { opened = refl; packed = refl; pool = refl; head = refl })))
 
 puts-objects : (fs : List Field) (s : State) → Same-objects s (put-fields fs s)
 puts-objects [] s = same-objects s
@@ -255,9 +255,9 @@ end-effect s r a = by-test (s .ended || nothing-open s) _ _ (λ (x : Out (Unit {
     over (_∷_ p ps) =
         let w = with-ended (pop-pack false s r .state) in let q = resolve-objects w in let m = resolve w .memory in
         subst (λ (x : ℕ). Effect End s r m x a (resolve w .opened) (resolve w .packed) (resolve w .pool) (pop-pack false s r .register)) (sym (q .head))
-          (subst (λ (x : List Object). Effect End s r m (w .head) a x (resolve w .packed) (resolve w .pool) (pop-pack false s r .register)) (sym (q .opened))
-            (subst (λ (x : List Object). Effect End s r m (w .head) a (w .opened) x (resolve w .pool) (pop-pack false s r .register)) (sym (q .packed))
-              (subst (λ (x : Pool). Effect End s r m (w .head) a (w .opened) (w .packed) x (pop-pack false s r .register)) (sym (q .pool)) (pop-plain End s r a m))))
+        (subst (λ (x : List Object). Effect End s r m (w .head) a x (resolve w .packed) (resolve w .pool) (pop-pack false s r .register)) (sym (q .opened))
+        (subst (λ (x : List Object). Effect End s r m (w .head) a (w .opened) x (resolve w .pool) (pop-pack false s r .register)) (sym (q .packed))
+        (subst (λ (x : Pool). Effect End s r m (w .head) a (w .opened) (w .packed) x (pop-pack false s r .register)) (sym (q .pool)) (pop-plain End s r a m))))
 
 -- ---- adding a link
 

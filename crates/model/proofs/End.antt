@@ -26,9 +26,9 @@ use Rattle.model.proofs.Sound.{Sound, Sound-state, flag-sound, pop-pack-good}
 put-sound : (n : ℕ) (f : Field) (s : State) → Sound-state n s → Sound-state n (put-field f s)
 put-sound n f s d =
     by-test (eqb (f .width) 0) _ _ (Sound-state n) (λ e. d)
-      (λ e. by-test (ltb (largest (f .width) (f .signed)) (f .value)) _ _ (Sound-state n) (λ e. flag-sound n s offset-overflow d)
-        (λ e. by-test (ltb (length (s .memory)) (f .place + f .width)) _ _ (Sound-state n) (λ e. flag-sound n s other d)
-          (λ e. record { sized = length-write (s .memory) (f .place) (big-endian (f .width) (f .value)) (rw (length-big-endian (f .width) (f .value)) (ltb-false (length (s .memory)) (f .place + f .width) e)) ∙ d .sized; below = d .below; stacked = d .stacked; under = d .under; meets = d .meets; tails = d .tails })))
+    (λ e. by-test (ltb (largest (f .width) (f .signed)) (f .value)) _ _ (Sound-state n) (λ e. flag-sound n s offset-overflow d)
+    (λ e. by-test (ltb (length (s .memory)) (f .place + f .width)) _ _ (Sound-state n) (λ e. flag-sound n s other d)
+    (λ e. record { sized = length-write (s .memory) (f .place) (big-endian (f .width) (f .value)) (rw (length-big-endian (f .width) (f .value)) (ltb-false (length (s .memory)) (f .place + f .width) e)) ∙ d .sized; below = d .below; stacked = d .stacked; under = d .under; meets = d .meets; tails = d .tails })))
 
 puts-sound : (n : ℕ) (fs : List Field) (s : State) → Sound-state n s → Sound-state n (put-fields fs s)
 puts-sound n [] s d = d
@@ -45,11 +45,12 @@ resolve-sound n s d = by-test (flagged s) _ _ (Sound-state n) (λ e. d)
 pub end-sound : (n : ℕ) (s : State) → Sound-state n s → (r : Pairs) → Sound-state n (end-serialize s r .state)
 end-sound n s d r =
     by-test (s .ended || nothing-open s) _ _ (λ (x : Out (Unit {0})). Sound-state n (x .state)) (λ e. d)
-      (λ e. by-test (flagged s) _ _ (λ (x : Out (Unit {0})). Sound-state n (x .state)) (λ e. flags-so (cases-bool (contains (s .flags) offset-overflow))) (λ e. over (s .packed)))
+    (λ e. by-test (flagged s) _ _ (λ (x : Out (Unit {0})). Sound-state n (x .state)) (λ e. flags-so (cases-bool (contains (s .flags) offset-overflow))) (λ e. over (s .packed)))
   where
     flags-so : ((contains (s .flags) offset-overflow ≡ true) ⊎ (contains (s .flags) offset-overflow ≡ false)) → Sound-state n (end-flagged s)
     flags-so (inl e) = rw e (flag-sound n s other d)
     flags-so (inr e) = rw e d
+
     over : (ps : List Object) → Sound-state n (end-over ps s r .state)
     over [] = d
     over (_∷_ p ps) = resolve-sound n (with-ended (pop-pack false s r .state)) (pop-pack-good n s d false r .0)
@@ -63,7 +64,7 @@ put-ended (_∷_ f fs) s = put-ended fs (put-field f s) ∙ one
     one : put-field f s .ended ≡ s .ended
     one = by-test (eqb (f .width) 0) _ _ (λ (x : State). x .ended ≡ s .ended) (λ e. refl)
         (λ e. by-test (ltb (largest (f .width) (f .signed)) (f .value)) _ _ (λ (x : State). x .ended ≡ s .ended) (λ e. refl)
-          (λ e. by-test (ltb (length (s .memory)) (f .place + f .width)) _ _ (λ (x : State). x .ended ≡ s .ended) (λ e. refl) (λ e. refl)))
+        (λ e. by-test (ltb (length (s .memory)) (f .place + f .width)) _ _ (λ (x : State). x .ended ≡ s .ended) (λ e. refl) (λ e. refl)))
 
 resolved-ended : (o : Option (List Field)) (s : State) → resolved o s .ended ≡ s .ended
 resolved-ended None s = refl

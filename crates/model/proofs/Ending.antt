@@ -55,23 +55,34 @@ module _ (n : ℕ) (s : State) (d : Sound-state n s) (r : Pairs) (o : Object) (o
   close-popped : close false o os s r .state .flags ≡ none → Popped n s o (close false o os s r .state)
   close-popped = by-test (ltb (s .head) (o .head)) _ _ (λ (x : Out (Option ObjIdx)). x .state .flags ≡ none → Popped n s o (x .state)) (λ e f. absurd (raised (s .flags) other (omega arith) f))
       (λ over. by-test (eqb (s .head) (o .head)) _ _ (λ (x : Out (Option ObjIdx)). x .state .flags ≡ none → Popped n s o (x .state))
-        (λ e. by-test (linkless o) _ _ (λ (x : Out (Option ObjIdx)). x .state .flags ≡ none → Popped n s o (x .state))
-          (λ _ f. let g = eqb-true (s .head) (o .head) e in
-            record { sound = with-tails n s os (s .pool) d ts; under = omega arith; head = g; tail = omega arith; loose = refl
-              ; after = ap (λ (x : List ℕ). x ++ drop (s .tail) (s .memory)) (sym (part-empty (s .memory) (o .head) (s .head) g)) })
-          (λ _ f. absurd (raised (s .flags) other (omega arith) f)))
-        (λ e f. let l = ltb-false (s .head) (o .head) over in
-          let z = size-is n s d soft o os over ts in
-          let u = under-end n s d in
-          let at = s .tail - (s .head - o .head) in
-          record { sound = new-good n s d soft o os over ts (eqb-false (s .head) (o .head) e) .0; under = l; head = refl; tail = refl
-            ; after = from-write (s .memory) at (own s o) (omega (arith, d .sized)) ∙ ap (λ (x : ℕ). own s o ++ drop x (s .memory)) (let y = d .below in omega arith)
-            ; loose = take-write (s .memory) at (own s o) (o .head) (omega (arith, d .below)) (omega (arith, d .sized)) }))
+      (λ e. by-test (linkless o) _ _ (λ (x : Out (Option ObjIdx)). x .state .flags ≡ none → Popped n s o (x .state))
+      (λ _ f. let g = eqb-true (s .head) (o .head) e in
+      record {
+        sound = with-tails n s os (s .pool) d ts;
+        under = omega arith;
+        head = g;
+        tail = omega arith;
+        loose = refl;
+        after = ap (λ (x : List ℕ). x ++ drop (s .tail) (s .memory)) (sym (part-empty (s .memory) (o .head) (s .head) g));
+      })
+      (λ _ f. absurd (raised (s .flags) other (omega arith) f)))
+      (λ e f. let l = ltb-false (s .head) (o .head) over in
+      let z = size-is n s d soft o os over ts in
+      let u = under-end n s d in
+      let at = s .tail - (s .head - o .head) in
+      record {
+        sound = new-good n s d soft o os over ts (eqb-false (s .head) (o .head) e) .0;
+        under = l;
+        head = refl;
+        tail = refl;
+        after = from-write (s .memory) at (own s o) (omega (arith, d .sized)) ∙ ap (λ (x : ℕ). own s o ++ drop x (s .memory)) (let y = d .below in omega arith);
+        loose = take-write (s .memory) at (own s o) (o .head) (omega (arith, d .below)) (omega (arith, d .sized));
+      }))
 
 close-opened : (s : State) (r : Pairs) (o : Object) (os : List Object) → close false o os s r .state .opened ≡ os
 close-opened s r o os = by-test (ltb (s .head) (o .head)) _ _ (λ (x : Out (Option ObjIdx)). x .state .opened ≡ os) (λ e. refl)
     (λ e. by-test (eqb (s .head) (o .head)) _ _ (λ (x : Out (Option ObjIdx)). x .state .opened ≡ os)
-      (λ e. by-test (linkless o) _ _ (λ (x : Out (Option ObjIdx)). x .state .opened ≡ os) (λ e. refl) (λ e. refl)) (λ e. refl))
+    (λ e. by-test (linkless o) _ _ (λ (x : Out (Option ObjIdx)). x .state .opened ≡ os) (λ e. refl) (λ e. refl)) (λ e. refl))
 
 -- ---- the ending
 
@@ -103,8 +114,8 @@ module _ (n : ℕ) (s : State) (o : Object) (os : List Object) (is : s .opened �
   resolve-ending = by-test (flagged w) _ _ (λ (x : State). x .flags ≡ none → x .packed ≡ w .packed → Ending n s x)
       (λ e z k. absurd (both-ways (flagged w) (ap (λ (x : SerializeErrorFlags). not (same-flags x none)) z) e))
       (λ e. let c = zero-flags w e in by-test (nothing-open w) _ _ (λ (x : State). x .flags ≡ none → x .packed ≡ w .packed → Ending n s x)
-        (λ u z k. resolved-ending (none-open w u) c (fields w (w .packed)) refl z k)
-        (λ u z k. absurd (raised (w .flags) other (omega arith) z)))
+      (λ u z k. resolved-ending (none-open w u) c (fields w (w .packed)) refl z k)
+      (λ u z k. absurd (raised (w .flags) other (omega arith) z)))
 
 module _ (n : ℕ) (s : State) (d : Sound-state n s) (r : Pairs) (going : s .ended ≡ false) where
   -- over an open object, without flags
@@ -114,20 +125,21 @@ module _ (n : ℕ) (s : State) (d : Sound-state n s) (r : Pairs) (going : s .end
       let q : pop-pack false s r ≡ close false o os s r = if-false (idle s) _ _ active ∙ ap (λ (y : List Object). close-first false y s r) is in
       let w = with-ended (x .state) in
       resolve-ending n s o os is clean w
-        (λ c. let y : Popped n s o (x .state) = subst (λ (v : Out (Option ObjIdx)). v .state .flags ≡ none → Popped n s o (v .state)) (sym (e ∙ q)) (close-popped n s d r o os (subst (Tails n) is (d .tails) .1) clean) c in
-          record { sound = y .sound; under = y .under; head = y .head; tail = y .tail; after = y .after; loose = y .loose })
-        (ap (λ (v : Out (Option ObjIdx)). v .state .opened) (e ∙ q) ∙ close-opened s r o os) z (resolve-objects w .packed)
+      (λ c. let y : Popped n s o (x .state) = subst (λ (v : Out (Option ObjIdx)). v .state .flags ≡ none → Popped n s o (v .state)) (sym (e ∙ q)) (close-popped n s d r o os (subst (Tails n) is (d .tails) .1) clean) c in
+      record { sound = y .sound; under = y .under; head = y .head; tail = y .tail; after = y .after; loose = y .loose })
+      (ap (λ (v : Out (Option ObjIdx)). v .state .opened) (e ∙ q) ∙ close-opened s r o os) z (resolve-objects w .packed)
 
   pub end-ending : end-serialize s r .state .ended ≡ true → end-serialize s r .state .flags ≡ none → Ending n s (end-serialize s r .state)
   end-ending = by-test (s .ended || nothing-open s) _ _ (λ (x : Out (Unit {0})). x .state .ended ≡ true → x .state .flags ≡ none → Ending n s (x .state))
       (λ t e. absurd (both-ways (s .ended) going e))
       (λ t. by-test (flagged s) _ _ (λ (x : Out (Unit {0})). x .state .ended ≡ true → x .state .flags ≡ none → Ending n s (x .state))
-        (λ f e. absurd (both-ways (s .ended) going e))
-        (λ f. first (or-parts (s .ended) (nothing-open s) t .1) (zero-flags s f) (s .opened) refl))
+      (λ f e. absurd (both-ways (s .ended) going e))
+      (λ f. first (or-parts (s .ended) (nothing-open s) t .1) (zero-flags s f) (s .opened) refl))
     where
       over : (o : Object) (os : List Object) → s .opened ≡ o ∷ os → s .flags ≡ none → (ps : List Object) → end-over ps s r .state .ended ≡ true → end-over ps s r .state .flags ≡ none → Ending n s (end-over ps s r .state)
       over o os is clean [] e z = absurd (both-ways (s .ended) going e)
       over o os is clean (_∷_ p ps) e z = closing o os is clean (pop-pack false s r) refl z
+
       first : nothing-open s ≡ false → s .flags ≡ none → (os : List Object) → s .opened ≡ os → end-over (s .packed) s r .state .ended ≡ true → end-over (s .packed) s r .state .flags ≡ none → Ending n s (end-over (s .packed) s r .state)
       first u clean [] is = absurd (both-ways (nothing-open s) u (ap (λ (x : List Object). elim x as (λ y. Bool) [ [] ↦ true | _∷_ p ps ↦ false ]) is))
       first u clean (_∷_ o os) is = over o os is clean (s .packed)
@@ -150,10 +162,13 @@ shown-field w v g l u = go g u
   where
     half : 2 ^ (8 * w - 1) + 2 ^ (8 * w - 1) ≡ 2 ^ (8 * w)
     half = let e : 1 + (8 * w - 1) ≡ 8 * w = omega arith in let c = pow-add 2 1 (8 * w - 1) in sym (ap (λ (x : ℕ). 2 ^ x) (sym e) ∙ (c ∙ omega arith))
+
     some-power : 0 < 2 ^ (8 * w - 1)
     some-power = pow-pos (8 * w - 1)
+
     whole : v < 2 ^ (8 * w) → number (big-endian w v) ≡ v
     whole h = number-back w v (subst (λ (x : ℕ). v < x) (bits w) h)
+
     go : (g : Bool) → v ≤ largest w g → shown g (big-endian w v) ≡ pos v
     go false h = let p = half in let q = some-power in ap pos (whole (omega arith))
     go true h =

@@ -69,12 +69,21 @@ labs-of s ps k o e done (_∷_ l ls) fs r f =
     let c = field-some s o l (numbered (s .packed) (l .objidx .0)) (b .0) (b .1) in
     let ih = labs-of s ps k o e (done ++ (l ∷ [])) ls (a .1) (r ∙ sym (append-assoc done (l ∷ []) ls)) (a .3) in
     let n : length (done ++ (l ∷ [])) ≡ suc (length done) = length-append done (l ∷ []) ∙ omega arith in
-    subst (λ (x : List Field). Labs s ps k (length done) x × (length x ≡ suc (length ls))) (sym (a .4 ∙ ap (λ (x : List Field). x ++ a .1) (b .2)))
-      ((record
-          { object = o; link = l; packed = e
-          ; linked = subst (λ (x : List Link). nth x (length done) ≡ Some l) (sym r) (nth-at done l ls)
-          ; child = c .0; named = c .1; is = subst (λ (x : Option Object). field s o l x ≡ Some (b .0)) (c .1) (b .1) },
-        subst (λ (x : ℕ). Labs s ps k x (a .1)) n (ih .0)), ap suc (ih .1))
+    subst (λ (x : List Field). Labs s ps k (length done) x × (length x ≡ suc (length ls))) (sym (a .4 ∙ ap (λ (x : List Field). x ++ a .1) (b .2))) (
+      (
+        record {
+          object = o;
+          link = l;
+          packed = e;
+          linked = subst (λ (x : List Link). nth x (length done) ≡ Some l) (sym r) (nth-at done l ls);
+          child = c .0;
+          named = c .1;
+          is = subst (λ (x : Option Object). field s o l x ≡ Some (b .0)) (c .1) (b .1);
+        },
+        subst (λ (x : ℕ). Labs s ps k x (a .1)) n (ih .0),
+      ),
+      ap suc (ih .1),
+    )
 
 -- ---- others
 
@@ -85,10 +94,11 @@ labs-others s ps k n i (_∷_ h hs) l t = ((k, n, t .0, λ z. let y = z .1 in om
 
 labs-spot : (s : State) (ps : List Object) (k n i : ℕ) (fs : List Field) → n ≤ i → i < n + length fs → Labs s ps k n fs → Spot s ps fs k i
 labs-spot s ps k n i [] l u t = absurd (omega arith)
-labs-spot s ps k n i (_∷_ h hs) l u t = elim (cases-bool (eqb n i))
-    [ inl e ↦ subst (λ (x : ℕ). Spot s ps (h ∷ hs) k x) (eqb-true n i e) (record { front = []; here = h; rest = hs; split = refl; lab = t .0; others = labs-others s ps k (suc n) n hs (omega arith) (t .1) })
-    | inr e ↦ let ne = eqb-false n i e in let q = labs-spot s ps k (suc n) i hs (omega arith) (omega arith) (t .1) in
-        record { front = h ∷ q .front; here = q .here; rest = q .rest; split = ap (λ (x : List Field). h ∷ x) (q .split); lab = q .lab; others = q .others } ]
+labs-spot s ps k n i (_∷_ h hs) l u t = elim (cases-bool (eqb n i)) [
+  | inl e ↦ subst (λ (x : ℕ). Spot s ps (h ∷ hs) k x) (eqb-true n i e) (record { front = []; here = h; rest = hs; split = refl; lab = t .0; others = labs-others s ps k (suc n) n hs (omega arith) (t .1) })
+  | inr e ↦ let ne = eqb-false n i e in let q = labs-spot s ps k (suc n) i hs (omega arith) (omega arith) (t .1) in
+      record { front = h ∷ q .front; here = q .here; rest = q .rest; split = ap (λ (x : List Field). h ∷ x) (q .split); lab = q .lab; others = q .others }
+]
 
 -- one object more
 lab-more : (s : State) (o : Object) (ps : List Object) (k i : ℕ) (h : Field) → Lab s ps k i h → Lab s (o ∷ ps) k i h
@@ -116,18 +126,23 @@ spots s [] fs f k p e i l = absurd (none-some p e)
 spots s (_∷_ o os) fs f k p e i l =
     let a = and-then-some (fields s os) (fields-of s o (o .real)) fs f in
     let t = labs-of s (o ∷ os) (length os) o (numbered-here o os) [] (o .real) (a .1) refl (a .3) in
-    elim (cases-bool (eqb (length os) k))
-      [ inl u ↦ let g = eqb-true (length os) k u in
+    elim (cases-bool (eqb (length os) k)) [
+      | inl u ↦ let g = eqb-true (length os) k u in
           let v : o ≡ p = numbered-first o p os k g e in
           let q = labs-spot s (o ∷ os) (length os) 0 i (a .1) (omega arith) (let z = t .1 in let y = ap (λ (x : Object). length (x .real)) v in omega arith) (t .0) in
           subst (λ (x : ℕ). Spot s (o ∷ os) fs x i) g
-            (record { front = a .0 ++ q .front; here = q .here; rest = q .rest; split = a .4 ∙ (ap (λ (x : List Field). a .0 ++ x) (q .split) ∙ sym (append-assoc (a .0) (q .front) (q .here ∷ q .rest))); lab = q .lab; others = q .others })
+          (record { front = a .0 ++ q .front; here = q .here; rest = q .rest; split = a .4 ∙ (ap (λ (x : List Field). a .0 ++ x) (q .split) ∙ sym (append-assoc (a .0) (q .front) (q .here ∷ q .rest))); lab = q .lab; others = q .others })
       | inr u ↦ let ne = eqb-false (length os) k u in
           let q = spots s os (a .0) (a .2) k p (sym (numbered-there o os k ne) ∙ e) i l in
-          record { front = q .front; here = q .here; rest = q .rest ++ a .1
-            ; split = a .4 ∙ (ap (λ (x : List Field). x ++ a .1) (q .split) ∙ append-assoc (q .front) (q .here ∷ q .rest) (a .1))
-            ; lab = lab-more s o os k i (q .here) (q .lab)
-            ; others = others-join s (o ∷ os) k i (q .rest) (a .1) (others-more s o os k i (q .rest) (q .others)) (labs-apart s (o ∷ os) (length os) 0 k i (a .1) ne (t .0)) } ]
+          record {
+            front = q .front;
+            here = q .here;
+            rest = q .rest ++ a .1;
+            split = a .4 ∙ (ap (λ (x : List Field). x ++ a .1) (q .split) ∙ append-assoc (q .front) (q .here ∷ q .rest) (a .1));
+            lab = lab-more s o os k i (q .here) (q .lab);
+            others = others-join s (o ∷ os) k i (q .rest) (a .1) (others-more s o os k i (q .rest) (q .others)) (labs-apart s (o ∷ os) (length os) 0 k i (a .1) ne (t .0));
+          }
+    ]
 
 -- each field belongs to a link, seen from a number that no object has
 pub all-labelled : (s : State) (ps : List Object) (fs : List Field) → fields s ps ≡ Some fs → (k i : ℕ) → length ps ≤ k → Others s ps k i fs
@@ -136,4 +151,4 @@ all-labelled s (_∷_ o os) fs f k i l =
     let a = and-then-some (fields s os) (fields-of s o (o .real)) fs f in
     let t = labs-of s (o ∷ os) (length os) o (numbered-here o os) [] (o .real) (a .1) refl (a .3) in
     subst (λ (x : List Field). Others s (o ∷ os) k i x) (sym (a .4))
-      (others-join s (o ∷ os) k i (a .0) (a .1) (others-more s o os k i (a .0) (all-labelled s os (a .0) (a .2) k i (omega arith))) (labs-apart s (o ∷ os) (length os) 0 k i (a .1) (λ z. omega arith) (t .0)))
+    (others-join s (o ∷ os) k i (a .0) (a .1) (others-more s o os k i (a .0) (all-labelled s os (a .0) (a .2) k i (omega arith))) (labs-apart s (o ∷ os) (length os) 0 k i (a .1) (λ z. omega arith) (t .0)))

@@ -21,9 +21,10 @@ below (suc n) f = f n && below n f
 
 below-at : (n : ℕ) (f : ℕ → Bool) → below n f ≡ true → (k : ℕ) → k < n → f k ≡ true
 below-at zero f e k h = absurd (not-suc-le-zero h)
-below-at (suc n) f e k h = elim (cases-bool (eqb k n))
-    [ inl p ↦ subst (λ (x : ℕ). f x ≡ true) (sym (eqb-true k n p)) (and-parts (f n) (below n f) e .0)
-    | inr q ↦ below-at n f (and-parts (f n) (below n f) e .1) k (omega (arith, eqb-false k n q)) ]
+below-at (suc n) f e k h = elim (cases-bool (eqb k n)) [
+  | inl p ↦ subst (λ (x : ℕ). f x ≡ true) (sym (eqb-true k n p)) (and-parts (f n) (below n f) e .0)
+  | inr q ↦ below-at n f (and-parts (f n) (below n f) e .1) k (omega (arith, eqb-false k n q))
+]
 
 abbrev row : ℕ → ℕ → Bool
 row f g = not (hard (flags f)) || hard (flags (bitOr f g))
@@ -48,9 +49,10 @@ from-row : (f g : ℕ) → row f g ≡ true → hard (flags f) ≡ true → hard
 from-row f g e h = elim (or-cases (not (hard (flags f))) (hard (flags (bitOr f g))) e) [ inl p ↦ absurd (both-ways (not (hard (flags f))) (ap not h) p) | inr q ↦ q ]
 
 joined-hard : (f g : ℕ) → hard (flags f) ≡ true → hard (flags (bitOr f g)) ≡ true
-joined-hard f g h = elim (cases-lt 16 (bitOr f g))
-    [ inl l ↦ hard-above (bitOr f g) l
-    | inr l ↦ from-row f g (below-at 17 (row f) (below-at 17 all-rows table f (omega (arith, or-above-l f g))) g (omega (arith, or-above-r f g))) h ]
+joined-hard f g h = elim (cases-lt 16 (bitOr f g)) [
+  | inl l ↦ hard-above (bitOr f g) l
+  | inr l ↦ from-row f g (below-at 17 (row f) (below-at 17 all-rows table f (omega (arith, or-above-l f g))) g (omega (arith, or-above-r f g))) h
+]
 
 pub hard-joined : (f g : SerializeErrorFlags) → hard f ≡ true → hard (joined f g) ≡ true
 hard-joined f g h = joined-hard (f .0) (g .0) h

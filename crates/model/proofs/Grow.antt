@@ -46,15 +46,17 @@ module _ (h t : ℕ) where
   grown-close o os j p e = let l = numbered-below os j p e in inl (p, numbered-there o os j (λ z. omega arith) ∙ e, level-same p)
 
   grown-open : (o : Object) (os : List Object) → o .head ≡ h → o .tail ≡ t → Grown h t os (o ∷ os)
-  grown-open o os x y j p e = elim (cases-bool (eqb (length os) j))
-      [ inl u ↦ let g = eqb-true (length os) j u in let v = numbered-first o p os j g e in inr (sym g, sym (ap (λ (z : Object). z .head) v) ∙ x, sym (ap (λ (z : Object). z .tail) v) ∙ y)
-      | inr u ↦ inl (p, sym (numbered-there o os j (eqb-false (length os) j u)) ∙ e, level-same p) ]
+  grown-open o os x y j p e = elim (cases-bool (eqb (length os) j)) [
+    | inl u ↦ let g = eqb-true (length os) j u in let v = numbered-first o p os j g e in inr (sym g, sym (ap (λ (z : Object). z .head) v) ∙ x, sym (ap (λ (z : Object). z .tail) v) ∙ y)
+    | inr u ↦ inl (p, sym (numbered-there o os j (eqb-false (length os) j u)) ∙ e, level-same p)
+  ]
 
   -- the innermost replaced
   grown-first : (o o′ : Object) (os : List Object) → Level o o′ → Grown h t (o ∷ os) (o′ ∷ os)
-  grown-first o o′ os l j p e = elim (cases-bool (eqb (length os) j))
-      [ inl u ↦ let g = eqb-true (length os) j u in inl (o, numbered-at o os j g, subst (Level o) (numbered-first o′ p os j g e) l)
-      | inr u ↦ let ne = eqb-false (length os) j u in inl (p, numbered-there o os j ne ∙ (sym (numbered-there o′ os j ne) ∙ e), level-same p) ]
+  grown-first o o′ os l j p e = elim (cases-bool (eqb (length os) j)) [
+    | inl u ↦ let g = eqb-true (length os) j u in inl (o, numbered-at o os j g, subst (Level o) (numbered-first o′ p os j g e) l)
+    | inr u ↦ let ne = eqb-false (length os) j u in inl (p, numbered-there o os j ne ∙ (sym (numbered-there o′ os j ne) ∙ e), level-same p)
+  ]
 
 -- ---- what stays packed
 
@@ -62,9 +64,9 @@ pub discard-floor : (m : List ℕ) (t : ℕ) (ps : List Object) (p : Pool) (r : 
 discard-floor m t [] p r f l h = l
 discard-floor m t (_∷_ o os) p r f l h = by-test (ltb (o .head) t) _ _ (λ (x : Discarded). f ≤ length (x .left))
     (λ e. let g : f ≤ length os = elim (cases-lt (length os) f)
-            [ inl u ↦ let z : t ≤ o .head = h (length os) o u (numbered-here o os) in absurd (let y = ltb-true (o .head) t e in omega arith) | inr u ↦ u ] in
-      discard-floor m t os (slot-back p (o .slot) (links-of o)) (struck r (object-hash m o) (length os)) f g
-        (λ k q u n. h k q u (numbered-there o os k (λ z. omega arith) ∙ n)))
+    [ inl u ↦ let z : t ≤ o .head = h (length os) o u (numbered-here o os) in absurd (let y = ltb-true (o .head) t e in omega arith) | inr u ↦ u ] in
+    discard-floor m t os (slot-back p (o .slot) (links-of o)) (struck r (object-hash m o) (length os)) f g
+    (λ k q u n. h k q u (numbered-there o os k (λ z. omega arith) ∙ n)))
     (λ e. l)
 
 -- the first f packed objects stay, if none of them starts below the tail recorded by an object that closes

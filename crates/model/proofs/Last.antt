@@ -53,10 +53,10 @@ relent-still (_∷_ x ps) [] t k p e = absurd t
 relent-still (_∷_ x ps) (_∷_ y qs) t k p e =
     let n = relent-length ps qs (t .1) in
     by-test (eqb (length ps) k) (Some x) (numbered ps k) (λ (z : Option Object). z ≡ Some p → Still (y ∷ qs) k p)
-      (λ u f. let g : x ≡ p = some-inj x p f in
-        subst (Still (y ∷ qs) k) g (record { object = y; named = numbered-at y qs k (n ∙ eqb-true (length ps) k u); slot = t .0 .slot; head = t .0 .head; tail = t .0 .tail; real = t .0 .real }))
-      (λ u f. let w = relent-still ps qs (t .1) k p f in
-        record { object = w .object; named = numbered-there y qs k (λ z. eqb-false (length ps) k u (sym n ∙ z)) ∙ w .named; slot = w .slot; head = w .head; tail = w .tail; real = w .real }) e
+    (λ u f. let g : x ≡ p = some-inj x p f in
+    subst (Still (y ∷ qs) k) g (record { object = y; named = numbered-at y qs k (n ∙ eqb-true (length ps) k u); slot = t .0 .slot; head = t .0 .head; tail = t .0 .tail; real = t .0 .real }))
+    (λ u f. let w = relent-still ps qs (t .1) k p f in
+    record { object = w .object; named = numbered-there y qs k (λ z. eqb-false (length ps) k u (sym n ∙ z)) ∙ w .named; slot = w .slot; head = w .head; tail = w .tail; real = w .real }) e
 
 -- ---- discarding
 
@@ -69,7 +69,7 @@ pub discard-persist : (m : List ℕ) (t : ℕ) (ps : List Object) (p : Pool) (r 
 discard-persist m t [] p r = persist-same []
 discard-persist m t (_∷_ o os) p r = by-test (ltb (o .head) t) _ _ (λ (x : Discarded). Persist (o ∷ os) (x .left))
     (λ e. let r′ = struck r (object-hash m o) (length os) in let p′ = slot-back p (o .slot) (links-of o) in let f = discard-fewer m t os p′ r′ in
-      λ k q n l. discard-persist m t os p′ r′ k q (sym (numbered-there o os k (λ z. omega arith)) ∙ n) l)
+    λ k q n l. discard-persist m t os p′ r′ k q (sym (numbered-there o os k (λ z. omega arith)) ∙ n) l)
     (λ e. persist-same (o ∷ os))
 
 -- only pairs of discarded numbers are struck
@@ -77,7 +77,7 @@ pub discard-pairs : (m : List ℕ) (t : ℕ) (ps : List Object) (p : Pool) (r : 
 discard-pairs m t [] p r h k = λ l. refl
 discard-pairs m t (_∷_ o os) p r h k = by-test (ltb (o .head) t) _ _ (λ (x : Discarded). k < length (x .left) → x .register .has h k ≡ r .has h k)
     (λ e l. let r′ = struck r (object-hash m o) (length os) in let p′ = slot-back p (o .slot) (links-of o) in let f = discard-fewer m t os p′ r′ in
-      discard-pairs m t os p′ r′ h k l ∙ has-struck r (object-hash m o) (length os) h k (other-pair (object-hash m o) (length os) h k (λ z. omega arith)))
+    discard-pairs m t os p′ r′ h k l ∙ has-struck r (object-hash m o) (length os) h k (other-pair (object-hash m o) (length os) h k (λ z. omega arith)))
     (λ e l. refl)
 
 -- ---- over a call
@@ -115,6 +115,7 @@ effect-pairs {s = s} {r = r} (drops-back o os u _ w) h k ne l e = discard-pairs 
 effect-pairs (cuts v x y n) h k ne l e = e
 effect-pairs {s = s} {r = r} (cuts-back v x y n t w) h k ne l e = discard-pairs (s .memory) t (s .packed) _ r h k l ∙ e
 effect-pairs {r = r} (enters g j u _) h k ne l e = has-entered r g (j .0) h k e
-effect-pairs {r = r} (strikes g j u _) h k ne l e = elim (cases-bool (same-pair g (j .0) h k))
-    [ inl t ↦ let q = same-pair-is g (j .0) h k t in absurd (ne (u ∙ sym (ap (λ (x : ℕ). OwnerStrike x (index k)) (q .0) ∙ ap (λ (x : ℕ). OwnerStrike g (index x)) (q .1))))
-    | inr t ↦ has-struck r g (j .0) h k t ∙ e ]
+effect-pairs {r = r} (strikes g j u _) h k ne l e = elim (cases-bool (same-pair g (j .0) h k)) [
+  | inl t ↦ let q = same-pair-is g (j .0) h k t in absurd (ne (u ∙ sym (ap (λ (x : ℕ). OwnerStrike x (index k)) (q .0) ∙ ap (λ (x : ℕ). OwnerStrike g (index x)) (q .1))))
+  | inr t ↦ has-struck r g (j .0) h k t ∙ e
+]

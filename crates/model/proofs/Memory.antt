@@ -20,7 +20,7 @@ drop-write m a xs t h l =
     let k = a + length xs in
     let d : k + (t - k) ≡ t = omega arith in
     subst (λ (n : ℕ). drop n (write m a xs) ≡ drop n m) d
-      (sym (drop-drop (t - k) k (write m a xs)) ∙ ap (drop (t - k)) (drop-at (take a m ++ xs) (drop k m) k (front-length m a xs (omega arith))) ∙ drop-drop (t - k) k m)
+    (sym (drop-drop (t - k) k (write m a xs)) ∙ ap (drop (t - k)) (drop-at (take a m ++ xs) (drop k m) k (front-length m a xs (omega arith))) ∙ drop-drop (t - k) k m)
 
 pub take-write : (m : List ℕ) (a : ℕ) (xs : List ℕ) (h : ℕ) → h ≤ a → a ≤ length m → take h (write m a xs) ≡ take h m
 take-write m a xs h l u =

@@ -82,7 +82,7 @@ answer-of b (_∷_ e since) before c = if-false _ _ _ (ne-eqb _ _ (λ z. longer 
 pub live-taken : (b : Beginning) (j : ℕ) (cs : List Call) (live : Live b j cs) → taken-at (run b cs .answers) j ≡ Some (snapshot (at b (live .before)))
 live-taken b j cs live =
     subst (λ (x : ℕ). taken-at (run b cs .answers) x ≡ Some (snapshot (at b (live .before)))) (live .then)
-      (subst (λ (x : List Call). taken-at (run b x .answers) (length (live .before)) ≡ Some (snapshot (at b (live .before)))) (sym (live .made)) (answer-of b (live .since) (live .before) Snap))
+    (subst (λ (x : List Call). taken-at (run b x .answers) (length (live .before)) ≡ Some (snapshot (at b (live .before)))) (sym (live .made)) (answer-of b (live .since) (live .before) Snap))
 
 -- ---- which calls revert
 

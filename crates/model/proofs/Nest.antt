@@ -45,13 +45,14 @@ pub record Within (s₀ s : State) : Type 0 where
   pub heads : (j : ℕ) (o : Object) → depth s₀ ≤ j → numbered (s .opened) j ≡ Some o → s₀ .head ≤ o .head
 
 within-same : (n : ℕ) (s : State) → Sound-state n s → Within s s
-within-same n s d = record
-    { fewer = omega arith
-    ; above = λ k p l e. let a = numbered-above n (s .packed) (d .stacked) k p e in omega (arith, d .under)
-    ; tails = λ j o l e. absurd (let b = numbered-below (s .opened) j o e in omega arith)
-    ; links = λ j o₀ o l e f. let g = some-inj o₀ o (sym e ∙ f) in subst (λ (x : Object). length (o₀ .real) ≤ length (x .real)) g (omega arith)
-    ; forward = omega arith
-    ; heads = λ j o l e. absurd (let b = numbered-below (s .opened) j o e in omega arith) }
+within-same n s d = record {
+  fewer = omega arith;
+  above = λ k p l e. let a = numbered-above n (s .packed) (d .stacked) k p e in omega (arith, d .under);
+  tails = λ j o l e. absurd (let b = numbered-below (s .opened) j o e in omega arith);
+  links = λ j o₀ o l e f. let g = some-inj o₀ o (sym e ∙ f) in subst (λ (x : Object). length (o₀ .real) ≤ length (x .real)) g (omega arith);
+  forward = omega arith;
+  heads = λ j o l e. absurd (let b = numbered-below (s .opened) j o e in omega arith);
+}
 
 -- a packed object that stands came from one at the same place
 came-from : (ps ps′ : List Object) → Persist ps ps′ → (k : ℕ) (p′ : Object) → k < length ps → numbered ps′ k ≡ Some p′ → (p : Object) × (numbered ps k ≡ Some p) × (p′ .head ≡ p .head)
@@ -72,43 +73,49 @@ module _ (n : ℕ) (s₀ s s′ : State) (d : Sound-state n s) (w : Within s₀ 
   less k l = omega (arith, w .fewer)
 
   within-core : Levels s (s′ .opened) → Links s₀ (s′ .opened) → count s₀ ≤ count s′ → Persist (s .packed) (s′ .packed) → s₀ .head ≤ s′ .head → Within s₀ s′
-  within-core g links fewer per forward = record
-      { fewer = fewer
-      ; above = λ k p l e. let q = came-from (s .packed) (s′ .packed) per k p (less k l) e in subst (λ (x : ℕ). s₀ .tail ≤ x) (sym (q .2)) (w .above k (q .0) l (q .1))
-      ; tails = λ j o l e k p u f.
-          let q = came-from (s .packed) (s′ .packed) per k p (less k u) f in
-          subst (λ (x : ℕ). o .tail ≤ x) (sym (q .2))
-            (elim (g j o e)
-              [ inl v ↦ subst (λ (x : ℕ). x ≤ q .0 .head) (sym (v .3)) (w .tails j (v .0) l (v .1) k (q .0) u (q .1))
-              | inr v ↦ subst (λ (x : ℕ). x ≤ q .0 .head) (sym (v .2)) (let a = numbered-above n (s .packed) (d .stacked) k (q .0) (q .1) in omega (arith, d .under)) ])
-      ; links = links
-      ; forward = forward
-      ; heads = λ j o l e. elim (g j o e)
-          [ inl v ↦ subst (λ (x : ℕ). s₀ .head ≤ x) (sym (v .2)) (w .heads j (v .0) l (v .1))
-          | inr v ↦ subst (λ (x : ℕ). s₀ .head ≤ x) (sym (v .1)) (w .forward) ] }
+  within-core g links fewer per forward = record {
+    fewer = fewer;
+    above = λ k p l e. let q = came-from (s .packed) (s′ .packed) per k p (less k l) e in subst (λ (x : ℕ). s₀ .tail ≤ x) (sym (q .2)) (w .above k (q .0) l (q .1));
+    tails = λ j o l e k p u f.
+        let q = came-from (s .packed) (s′ .packed) per k p (less k u) f in
+        subst (λ (x : ℕ). o .tail ≤ x) (sym (q .2))
+        (elim (g j o e) [
+          | inl v ↦ subst (λ (x : ℕ). x ≤ q .0 .head) (sym (v .3)) (w .tails j (v .0) l (v .1) k (q .0) u (q .1))
+          | inr v ↦ subst (λ (x : ℕ). x ≤ q .0 .head) (sym (v .2)) (let a = numbered-above n (s .packed) (d .stacked) k (q .0) (q .1) in omega (arith, d .under))
+        ]);
+    links = links;
+    forward = forward;
+    heads = λ j o l e. elim (g j o e) [
+      | inl v ↦ subst (λ (x : ℕ). s₀ .head ≤ x) (sym (v .2)) (w .heads j (v .0) l (v .1))
+      | inr v ↦ subst (λ (x : ℕ). s₀ .head ≤ x) (sym (v .1)) (w .forward)
+    ];
+  }
 
   within-step : Step s (s′ .head) (s′ .opened) (s′ .packed) → Within s₀ s′
   within-step st = within-core
       (λ j o e. elim (st .grown j o e) [ inl v ↦ inl (v .0, v .1, v .2 .head, v .2 .tail) | inr v ↦ inr v ])
-      (λ j o₀ o l e f. elim (st .grown j o f)
-        [ inl v ↦ let a = w .links j o₀ (v .0) l e (v .1) in let b = v .2 .links in omega arith
-        | inr v ↦ absurd (let z : j ≡ depth s = v .0 in omega arith) ])
+      (λ j o₀ o l e f. elim (st .grown j o f) [
+        | inl v ↦ let a = w .links j o₀ (v .0) l e (v .1) in let b = v .2 .links in omega arith
+        | inr v ↦ absurd (let z : j ≡ depth s = v .0 in omega arith)
+      ])
       (st .floor (count s₀) (w .fewer) (λ lt o os e k p l f. w .tails (length os) o (let z = ap length e in omega arith) (ap (λ (x : List Object). numbered x (length os)) e ∙ numbered-here o os) k p l f))
       (st .persist)
-      (elim (st .moves)
-        [ inl l ↦ let a = w .forward in omega arith
-        | inr v ↦ let a = w .heads (depth s′) (v .0) deep (ap (λ (x : List Object). numbered x (depth s′)) (v .1) ∙ numbered-here (v .0) (s′ .opened)) in let b = v .2 in omega arith ])
+      (elim (st .moves) [
+        | inl l ↦ let a = w .forward in omega arith
+        | inr v ↦ let a = w .heads (depth s′) (v .0) deep (ap (λ (x : List Object). numbered x (depth s′)) (v .1) ∙ numbered-here (v .0) (s′ .opened)) in let b = v .2 in omega arith
+      ])
 
 -- ---- reverting
 
 pub cut-level : (a b : ℕ) (os : List Object) (j : ℕ) (o′ : Object) → numbered (cut-first a b os) j ≡ Some o′ →
     (o : Object) × (numbered os j ≡ Some o) × (o′ .head ≡ o .head) × (o′ .tail ≡ o .tail) × (((suc j ≡ length os) × (o′ .real ≡ take a (o .real))) ⊎ (o′ .real ≡ o .real))
 cut-level a b [] j o′ e = absurd (none-some o′ e)
-cut-level a b (_∷_ o os) j o′ e = elim (cases-bool (eqb (length os) j))
-    [ inl u ↦ let g = eqb-true (length os) j u in
-        let v = numbered-first _ o′ os j g e in
-        (o, numbered-at o os j g, sym (ap (λ (x : Object). x .head) v), sym (ap (λ (x : Object). x .tail) v), inl (ap suc (sym g), sym (ap (λ (x : Object). x .real) v)))
-    | inr u ↦ let ne = eqb-false (length os) j u in (o′, numbered-there o os j ne ∙ (sym (numbered-there _ os j ne) ∙ e), refl, refl, inr refl) ]
+cut-level a b (_∷_ o os) j o′ e = elim (cases-bool (eqb (length os) j)) [
+  | inl u ↦ let g = eqb-true (length os) j u in
+      let v = numbered-first _ o′ os j g e in
+      (o, numbered-at o os j g, sym (ap (λ (x : Object). x .head) v), sym (ap (λ (x : Object). x .tail) v), inl (ap suc (sym g), sym (ap (λ (x : Object). x .real) v)))
+  | inr u ↦ let ne = eqb-false (length os) j u in (o′, numbered-there o os j ne ∙ (sym (numbered-there _ os j ne) ∙ e), refl, refl, inr refl)
+]
 
 pub snap-real : (os : List Object) (j : ℕ) (o : Object) → suc j ≡ length os → numbered os j ≡ Some o → real-count os ≡ length (o .real)
 snap-real [] j o l e = absurd (none-some o e)
@@ -129,13 +136,14 @@ module _ (n : ℕ) (s₀ t s : State) (r : Pairs) (d : Sound-state n s) (w : Wit
   reverted-links j o₀ o l e f =
       let c = cut-level (p .«num_real_links») (p .«num_virtual_links») (s .opened) j o f in
       let a = w .links j o₀ (c .0) l e (c .1) in
-      elim (c .4)
-        [ inl y ↦ let x : suc j ≡ depth t = (y .0) ∙ sym level in
+      elim (c .4) [
+        | inl y ↦ let x : suc j ≡ depth t = (y .0) ∙ sym level in
             let q = numbered-is (t .opened) j (let z = x in omega arith) in
             let b = v .links j o₀ (q .0) l e (q .1) in
             let g = snap-real (t .opened) j (q .0) x (q .1) in
             let h : length (o .real) ≡ min (real-count (t .opened)) (length (c .0 .real)) = ap length (y .1) ∙ length-take (real-count (t .opened)) (c .0 .real) in omega arith
-        | inr y ↦ let h : length (o .real) ≡ length (c .0 .real) = ap length y in omega arith ]
+        | inr y ↦ let h : length (o .real) ≡ length (c .0 .real) = ap length y in omega arith
+      ]
 
   reverted-levels : Levels s (s₁ .opened)
   reverted-levels j o e = let c = cut-level (p .«num_real_links») (p .«num_virtual_links») (s .opened) j o e in inl (c .0, c .1, c .2, c .3)
@@ -146,8 +154,8 @@ module _ (n : ℕ) (s₀ t s : State) (r : Pairs) (d : Sound-state n s) (w : Wit
   within-revert : Within s₀ (revert-snapshot p s r .state)
   within-revert = by-test (idle s || (not (same-slot (p .current) (open-slot s)) || ltb (length (s .memory)) (p .tail))) _ _ (λ (x : Out (Unit {0})). Within s₀ (x .state)) (λ e. w)
       (λ e. by-test (flagged s₁ || (ltb (s .head) (t .head) || ltb (t .tail) (s .tail))) (out s₁ r tt) (rewound (t .head) (t .tail) s₁ r) (λ (x : Out (Unit {0})). Within s₀ (x .state))
-        (λ e. within-core n s₀ s s₁ d w (omega arith) deep reverted-levels reverted-links (w .fewer) (persist-same (s .packed)) (w .forward))
-        (λ e. within-core n s₀ s (rewound (t .head) (t .tail) s₁ r .state) d w (omega arith) deep reverted-levels reverted-links reverted-fewer (discard-persist (s .memory) (t .tail) (s .packed) (s₁ .pool) r) (v .forward)))
+      (λ e. within-core n s₀ s s₁ d w (omega arith) deep reverted-levels reverted-links (w .fewer) (persist-same (s .packed)) (w .forward))
+      (λ e. within-core n s₀ s (rewound (t .head) (t .tail) s₁ r .state) d w (omega arith) deep reverted-levels reverted-links reverted-fewer (discard-persist (s .memory) (t .tail) (s .packed) (s₁ .pool) r) (v .forward)))
 
 -- ---- over a run
 
@@ -189,8 +197,8 @@ module _ (b : Beginning) where
       let bs = live .before in
       let ys = live .since ++ (Snap ∷ []) in
       undug-here cs all bs ys (live .made ∙ sym (append-assoc (live .since) (Snap ∷ []) bs))
-        (through-snoc (λ ds. depth (at b bs) ≤ depth (at b ds)) (live .since) Snap bs (live .not-closed) (omega arith))
-        (calm-from b (length bs) ys bs (older-snoc (length bs) (live .since) Snap (subst (λ (x : ℕ). None-older x (live .since)) (sym (live .then)) (live .not-older)) tt))
+      (through-snoc (λ ds. depth (at b bs) ≤ depth (at b ds)) (live .since) Snap bs (live .not-closed) (omega arith))
+      (calm-from b (length bs) ys bs (older-snoc (length bs) (live .since) Snap (subst (λ (x : ℕ). None-older x (live .since)) (sym (live .then)) (live .not-older)) tt))
 
   module _ (cs : List Call) (all : All-undug cs) (before since : List Call) (is : cs ≡ since ++ before)
       (t : Through (λ ds. depth (at b before) ≤ depth (at b ds)) since before) (o : Calm b (length before) since before) where
@@ -215,7 +223,7 @@ module _ (b : Beginning) where
         let v : Within (at b before) (at b bs) = undug-here bs (undug-drop ys bs (subst All-undug made all)) before (q .0) (q .1) tm om in
         let d₀ : depth (at b before) ≤ depth (at b bs) = subst (λ (x : List Call). depth (at b before) ≤ depth (at b x)) (sym (q .1)) (through-here P (q .0) before tm) in
         subst (λ (x : Option Snapshot). Within (at b before) (revert-to x (at b cs) (run b cs .register) .state)) (sym (live-taken b j cs live))
-          (within-revert (span b) (at b before) (at b bs) (at b cs) (run b cs .register) (run-sound b cs) w v (since-live cs all j live) d₀ (sym (live .again)))
+        (within-revert (span b) (at b before) (at b bs) (at b cs) (run b cs .register) (run-sound b cs) w v (since-live cs all j live) d₀ (sym (live .again)))
 
     next-by : (c : Call) → Turning c → May-revert b (role c) cs → Not-older (length before) (role c) → depth (at b before) ≤ depth (at b (c ∷ cs)) → Within (at b before) (at b (c ∷ cs))
     next-by c (ahead n) live l deep = plain c n deep

@@ -47,9 +47,10 @@ low n k l ne = omega arith
 
 pub numbered-is : (ps : List Object) (k : ℕ) → k < length ps → (p : Object) × (numbered ps k ≡ Some p)
 numbered-is [] k l = absurd (omega arith)
-numbered-is (_∷_ p ps) k l = elim (cases-bool (eqb (length ps) k))
-    [ inl e ↦ (p, numbered-at p ps k (eqb-true (length ps) k e))
-    | inr e ↦ let ne = eqb-false (length ps) k e in let q = numbered-is ps k (low (length ps) k l ne) in (q .0, numbered-there p ps k ne ∙ q .1) ]
+numbered-is (_∷_ p ps) k l = elim (cases-bool (eqb (length ps) k)) [
+  | inl e ↦ (p, numbered-at p ps k (eqb-true (length ps) k e))
+  | inr e ↦ let ne = eqb-false (length ps) k e in let q = numbered-is ps k (low (length ps) k l ne) in (q .0, numbered-there p ps k ne ∙ q .1)
+]
 
 -- ---- links
 

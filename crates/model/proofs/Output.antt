@@ -60,12 +60,12 @@ record Placed-one (f : Field) (s s′ : State) : Type 0 where
 put-placed : (f : Field) (s : State) → put-field f s .flags ≡ none → Placed-one f s (put-field f s)
 put-placed f s =
     by-test (eqb (f .width) 0) _ _ (λ (x : State). x .flags ≡ none → Placed-one f s x)
-      (λ z e. record { memory = sym (if-true (eqb (f .width) 0) (s .memory) (write (s .memory) (f .place) (big-endian (f .width) (f .value))) z); head = refl; tail = refl; clean = e; fits = λ n. absurd (n (eqb-true (f .width) 0 z)) })
-      (λ z. by-test (ltb (largest (f .width) (f .signed)) (f .value)) _ _ (λ (x : State). x .flags ≡ none → Placed-one f s x)
-        (λ y e. absurd (raised (s .flags) offset-overflow (omega arith) e))
-        (λ y. by-test (ltb (length (s .memory)) (f .place + f .width)) _ _ (λ (x : State). x .flags ≡ none → Placed-one f s x)
-          (λ x e. absurd (raised (s .flags) other (omega arith) e))
-          (λ x e. record { memory = sym (if-false (eqb (f .width) 0) (s .memory) (write (s .memory) (f .place) (big-endian (f .width) (f .value))) z); head = refl; tail = refl; clean = e; fits = λ n. (ltb-false (largest (f .width) (f .signed)) (f .value) y, ltb-false (length (s .memory)) (f .place + f .width) x) })))
+    (λ z e. record { memory = sym (if-true (eqb (f .width) 0) (s .memory) (write (s .memory) (f .place) (big-endian (f .width) (f .value))) z); head = refl; tail = refl; clean = e; fits = λ n. absurd (n (eqb-true (f .width) 0 z)) })
+    (λ z. by-test (ltb (largest (f .width) (f .signed)) (f .value)) _ _ (λ (x : State). x .flags ≡ none → Placed-one f s x)
+    (λ y e. absurd (raised (s .flags) offset-overflow (omega arith) e))
+    (λ y. by-test (ltb (length (s .memory)) (f .place + f .width)) _ _ (λ (x : State). x .flags ≡ none → Placed-one f s x)
+    (λ x e. absurd (raised (s .flags) other (omega arith) e))
+    (λ x e. record { memory = sym (if-false (eqb (f .width) 0) (s .memory) (write (s .memory) (f .place) (big-endian (f .width) (f .value))) z); head = refl; tail = refl; clean = e; fits = λ n. (ltb-false (largest (f .width) (f .signed)) (f .value) y, ltb-false (length (s .memory)) (f .place + f .width) x) })))
 
 -- what writing the fields has done if no flag stands after it
 pub record Placed (fs : List Field) (s s′ : State) : Type 0 where
@@ -84,8 +84,13 @@ puts-placed [] s e = record { memory = refl; head = refl; tail = refl; clean = e
 puts-placed (_∷_ f fs) s e =
     let r = puts-placed fs (put-field f s) e in
     let o = put-placed f s (r .clean) in
-    record { memory = r .memory ∙ ap (placed fs) (o .memory); head = r .head ∙ o .head; tail = r .tail ∙ o .tail; clean = o .clean
-      ; fits = (o .fits, subst (λ (x : ℕ). All-fit x fs) (ap length (o .memory) ∙ length-one f (s .memory) (o .fits)) (r .fits)) }
+    record {
+      memory = r .memory ∙ ap (placed fs) (o .memory);
+      head = r .head ∙ o .head;
+      tail = r .tail ∙ o .tail;
+      clean = o .clean;
+      fits = (o .fits, subst (λ (x : ℕ). All-fit x fs) (ap length (o .memory) ∙ length-one f (s .memory) (o .fits)) (r .fits));
+    }
 
 -- ---- lists of fields
 
@@ -111,7 +116,8 @@ placed-outside [] m p q a c = refl
 placed-outside (_∷_ f fs) m p q a c =
     placed-outside fs (one-placed f m) p q (subst (λ (x : ℕ). All-fit x fs) (sym (length-one f m (a .0))) (a .1)) (c .1)
     ∙ by-test (eqb (f .width) 0) _ _ (λ (x : List ℕ). part x p q ≡ part m p q) (λ e. refl)
-        (λ e. let ne = eqb-false (f .width) 0 e in let l = a .0 ne .1 in let z = length-big-endian (f .width) (f .value) in
-          elim (c .0 ne)
-            [ inl u ↦ part-below m (f .place) (big-endian (f .width) (f .value)) p q u (omega arith)
-            | inr u ↦ part-above m (f .place) (big-endian (f .width) (f .value)) p q (rw z u) (rw z l) ])
+    (λ e. let ne = eqb-false (f .width) 0 e in let l = a .0 ne .1 in let z = length-big-endian (f .width) (f .value) in
+    elim (c .0 ne) [
+      | inl u ↦ part-below m (f .place) (big-endian (f .width) (f .value)) p q u (omega arith)
+      | inr u ↦ part-above m (f .place) (big-endian (f .width) (f .value)) p q (rw z u) (rw z l)
+    ])

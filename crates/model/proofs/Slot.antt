@@ -100,7 +100,7 @@ pub slots-fit : (b : Beginning) → slots-of b ≤ b .register .capacity
 slots-fit b = cond-both (over-memory (b .size) (b .slots) (b .cells)) (Some Memory) (cond (ltb (b .register .capacity) (b .slots)) (Some Register) None) (λ (x : Option Limit). begun x (b .size) (b .slots) (b .cells) .pool .slots ≤ b .register .capacity)
     (λ e. omega arith)
     (λ e. cond-both (ltb (b .register .capacity) (b .slots)) (Some Register) None (λ (x : Option Limit). begun x (b .size) (b .slots) (b .cells) .pool .slots ≤ b .register .capacity)
-      (λ e. omega arith) (λ e. ltb-false (b .register .capacity) (b .slots) e))
+    (λ e. omega arith) (λ e. ltb-false (b .register .capacity) (b .slots) e))
 
 -- with an object open there are fewer packed than the register may hold
 pub room-left : (b : Beginning) (cs : List Call) → 0 < depth (at b cs) → count (at b cs) < b .register .capacity

@@ -98,9 +98,18 @@ lend-stacked n vs k (_∷_ p ps) st = by-test (eqb (length ps) k) _ _ (Stacked n
 
 ordering-good : (n : ℕ) (s₀ s : State) (k : ObjIdx) (l : Link) → Good n s₀ s → Good n s₀ (ordering k l s)
 ordering-good n s₀ s k l g =
-    let e = lend-lowest n (virtual-to k ∷ []) (l .objidx .0) (s .packed) in
-    (record { sized = g .0 .sized; below = g .0 .below; stacked = lend-stacked n (virtual-to k ∷ []) (l .objidx .0) (s .packed) (g .0 .stacked); under = rw e (g .0 .under)
-      ; meets = elim (g .0 .meets) [ inl h ↦ inl h | inr f ↦ inr (f ∙ sym e) ]; tails = g .0 .tails }, g .1, g .2)
+    let e = lend-lowest n (virtual-to k ∷ []) (l .objidx .0) (s .packed) in (
+      record {
+        sized = g .0 .sized;
+        below = g .0 .below;
+        stacked = lend-stacked n (virtual-to k ∷ []) (l .objidx .0) (s .packed) (g .0 .stacked);
+        under = rw e (g .0 .under);
+        meets = elim (g .0 .meets) [ inl h ↦ inl h | inr f ↦ inr (f ∙ sym e) ];
+        tails = g .0 .tails;
+      },
+      g .1,
+      g .2,
+    )
 
 repacking-good : (n : ℕ) (s₀ : State) (k : ObjIdx) (ls : List Link) (s : State) → Good n s₀ s → Good n s₀ (repacking k ls s .0)
 repacking-good n s₀ k [] s g = g
@@ -134,7 +143,7 @@ module _ (n : ℕ) (s : State) (sound : Sound-state n s) where
   cleared k e =
       let z = length-replicate k 0 in
       subst (λ (x : ℕ). Good n s (advancing x (with-memory s (write (s .memory) (s .head) (replicate k 0))) .0)) z
-        (written (replicate k 0) (subst (λ (x : ℕ). ltb (s .tail - s .head) x ≡ false) (sym z) e))
+      (written (replicate k 0) (subst (λ (x : ℕ). ltb (s .tail - s .head) x ≡ false) (sym z) e))
 
   allocated : (k : ℕ) (clear : Bool) → ltb (s .tail - s .head) k ≡ false → Good n s (allocating k clear s .0)
   allocated k true e = cleared k e
@@ -226,9 +235,9 @@ close-good : (n : ℕ) (s : State) (sound : Sound-state n s) → hard (s .flags)
 close-good n s sound soft share o os ts r =
     let w : Good n s (with-opened s os (s .pool)) = (with-tails n s os (s .pool) sound ts, refl, refl) in
     by-test (ltb (s .head) (o .head)) _ _ (λ (x : Out (Option ObjIdx)). Good n s (x .state)) (λ e. flag-good n s (with-opened s os (s .pool)) other w)
-      (λ over. by-test (eqb (s .head) (o .head)) _ _ (λ (x : Out (Option ObjIdx)). Good n s (x .state))
-        (λ e. by-test (linkless o) _ _ (λ (x : Out (Option ObjIdx)). Good n s (x .state)) (λ e. w) (λ e. flag-good n s (with-opened s os (s .pool)) other w))
-        (λ ne. pack-good n s sound soft o os over ts (eqb-false (s .head) (o .head) ne) share r))
+    (λ over. by-test (eqb (s .head) (o .head)) _ _ (λ (x : Out (Option ObjIdx)). Good n s (x .state))
+    (λ e. by-test (linkless o) _ _ (λ (x : Out (Option ObjIdx)). Good n s (x .state)) (λ e. w) (λ e. flag-good n s (with-opened s os (s .pool)) other w))
+    (λ ne. pack-good n s sound soft o os over ts (eqb-false (s .head) (o .head) ne) share r))
 
 pub pop-pack-good : (n : ℕ) (s : State) (sound : Sound-state n s) (share : Bool) (r : Pairs) → Good n s (pop-pack share s r .state)
 pop-pack-good n s sound share r =
@@ -245,8 +254,8 @@ discard-stacked : (m : List ℕ) (n t : ℕ) (ps : List Object) (p : Pool) (r : 
 discard-stacked m n t [] p r l st = (tt, l)
 discard-stacked m n t (_∷_ o os) p r l st =
     by-test (ltb (o .head) t) _ _ (λ (x : Discarded). Stacked n (x .left) × (t ≤ lowest n (x .left)))
-      (λ e. discard-stacked m n t os _ _ l (st .2))
-      (λ e. (st, ltb-false (o .head) t e))
+    (λ e. discard-stacked m n t os _ _ l (st .2))
+    (λ e. (st, ltb-false (o .head) t e))
 
 edge-lowest : (n : ℕ) (m : List ℕ) (ps : List Object) → length m ≡ n → (elim ps [ [] ↦ length m | _∷_ p qs ↦ p .head ]) ≡ lowest n ps
 edge-lowest n m [] e = e
@@ -257,14 +266,24 @@ module _ (n : ℕ) (s₀ s : State) (g : Good n s₀ s) (r : Pairs) (h t : ℕ) 
   rewound-good : flagged s ≡ false → ltb (s .head) h ≡ false → ltb t (s .tail) ≡ false → Good n s₀ (rewound h t s r .state)
   rewound-good z a b =
       let d = discard-stacked (s .memory) n t (s .packed) (s .pool) r l (g .0 .stacked) in
-      let e = edge-lowest n (s .memory) (discard (s .memory) t (s .packed) (s .pool) r .left) (g .0 .sized) in
-      (record { sized = g .0 .sized; below = omega (arith, ltb-false (s .head) h a, ltb-false t (s .tail) b, g .0 .below); stacked = d .0; under = d .1
-        ; meets = meets-so _ (discard (s .memory) t (s .packed) (s .pool) r .left) e; tails = g .0 .tails }, g .1, g .2)
+      let e = edge-lowest n (s .memory) (discard (s .memory) t (s .packed) (s .pool) r .left) (g .0 .sized) in (
+        record {
+          sized = g .0 .sized;
+          below = omega (arith, ltb-false (s .head) h a, ltb-false t (s .tail) b, g .0 .below);
+          stacked = d .0;
+          under = d .1;
+          meets = meets-so _ (discard (s .memory) t (s .packed) (s .pool) r .left) e;
+          tails = g .0 .tails;
+        },
+        g .1,
+        g .2,
+      )
     where
       meets-so : (x : ℕ) (ps : List Object) → x ≡ lowest n ps → (hard (cond (eqb x t) (s .flags) (joined (s .flags) other)) ≡ true) ⊎ (t ≡ lowest n ps)
-      meets-so x ps e = elim (cases-bool (eqb x t))
-          [ inl y ↦ inr (sym (eqb-true x t y) ∙ e)
-          | inr y ↦ inl (rw (y, zero-flags s z) refl) ]
+      meets-so x ps e = elim (cases-bool (eqb x t)) [
+        | inl y ↦ inr (sym (eqb-true x t y) ∙ e)
+        | inr y ↦ inl (rw (y, zero-flags s z) refl)
+      ]
 
   rewind-good : Good n s₀ (rewind h t s r .state)
   rewind-good = by-test (flagged s || (ltb (s .head) h || ltb t (s .tail))) _ _ (λ (x : Out (Unit {0})). Good n s₀ (x .state)) (λ e. g)
@@ -281,7 +300,7 @@ pop-discard-good n s sound r =
 pub revert-good : (n : ℕ) (s : State) → Sound-state n s → (p : Snapshot) (r : Pairs) → Good n s (revert-snapshot p s r .state)
 revert-good n s sound p r =
     by-test (idle s || (not (same-slot (p .current) (open-slot s)) || ltb (length (s .memory)) (p .tail))) _ _ (λ (x : Out (Unit {0})). Good n s (x .state)) (λ e. (sound, refl, refl))
-      (λ e. let a = or-parts (idle s) _ e in let b = or-parts (not (same-slot (p .current) (open-slot s))) (ltb (length (s .memory)) (p .tail)) (a .1) in
-        rewind-good n s (cut (p .«num_real_links») (p .«num_virtual_links») (with-flags s (p .errors)))
-          (record { sized = sound .sized; below = sound .below; stacked = sound .stacked; under = sound .under; meets = inr (not-hard n s sound (idle-hard s (a .0))); tails = cut-tails n (p .«num_real_links») (p .«num_virtual_links») (s .opened) (sound .tails) }, refl, refl)
-          r (p .head) (p .tail) (omega (arith, sound .sized, ltb-false (length (s .memory)) (p .tail) (b .1))))
+    (λ e. let a = or-parts (idle s) _ e in let b = or-parts (not (same-slot (p .current) (open-slot s))) (ltb (length (s .memory)) (p .tail)) (a .1) in
+    rewind-good n s (cut (p .«num_real_links») (p .«num_virtual_links») (with-flags s (p .errors)))
+    (record { sized = sound .sized; below = sound .below; stacked = sound .stacked; under = sound .under; meets = inr (not-hard n s sound (idle-hard s (a .0))); tails = cut-tails n (p .«num_real_links») (p .«num_virtual_links») (s .opened) (sound .tails) }, refl, refl)
+    r (p .head) (p .tail) (omega (arith, sound .sized, ltb-false (length (s .memory)) (p .tail) (b .1))))

@@ -84,10 +84,14 @@ numbered-above n (_∷_ q qs) st k p e = by-test (eqb (length qs) k) (Some q) (n
 pub law-a : (b : Beginning) (cs : List Call) → Law-a b cs
 law-a b cs =
     let d = run-sound b cs in
-    record
-      { stacked = d .stacked; apart = d .below; under = d .under; meets = d .meets
-      ; ending = λ c ne. run-called b c cs .only-end ne
-      ; unwritten = λ c same k p e.
+    record {
+      stacked = d .stacked;
+      apart = d .below;
+      under = d .under;
+      meets = d .meets;
+      ending = λ c ne. run-called b c cs .only-end ne;
+      unwritten = λ c same k p e.
           part-kept (at b cs .memory) (at b (_∷_ c cs) .memory) (at b cs .tail) (p .head) (p .tail)
-            (let l : lowest (span b) (at b cs .packed) ≤ p .head = numbered-above (span b) (at b cs .packed) (d .stacked) k p e in omega (arith, d .under))
-            (run-called b c cs .kept same) }
+          (let l : lowest (span b) (at b cs .packed) ≤ p .head = numbered-above (span b) (at b cs .packed) (d .stacked) k p e in omega (arith, d .under))
+          (run-called b c cs .kept same);
+    }

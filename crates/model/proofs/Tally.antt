@@ -81,34 +81,37 @@ tally-strike m r h n (_∷_ p ps) l =
 
 tally-struck : (m : List ℕ) (r : Pairs) (h n : ℕ) (ps : List Object) → tally m r ps ≤ tally m (struck r h n) ps + 1
 tally-struck m r h n [] = omega arith
-tally-struck m r h n (_∷_ p ps) = elim (cases-bool (eqb (length ps) n))
-    [ inl e ↦ let a = tally-strike m r h n ps (let z = eqb-true (length ps) n e in omega arith) in let b = one-le (r .has (object-hash m p) (length ps)) in omega arith
-    | inr e ↦ let a : one (struck r h n .has (object-hash m p) (length ps)) ≡ one (r .has (object-hash m p) (length ps)) = ap one (has-struck r h n (object-hash m p) (length ps) (other-pair h n (object-hash m p) (length ps) (eqb-false (length ps) n e))) in
-        let b = tally-struck m r h n ps in omega arith ]
+tally-struck m r h n (_∷_ p ps) = elim (cases-bool (eqb (length ps) n)) [
+  | inl e ↦ let a = tally-strike m r h n ps (let z = eqb-true (length ps) n e in omega arith) in let b = one-le (r .has (object-hash m p) (length ps)) in omega arith
+  | inr e ↦ let a : one (struck r h n .has (object-hash m p) (length ps)) ≡ one (r .has (object-hash m p) (length ps)) = ap one (has-struck r h n (object-hash m p) (length ps) (other-pair h n (object-hash m p) (length ps) (eqb-false (length ps) n e))) in
+      let b = tally-struck m r h n ps in omega arith
+]
 
 -- the count falls by the pair struck
 struck-count : (r : Pairs) (h n : ℕ) → Counted r → struck r h n .count + one (r .has h n) ≤ r .count
-struck-count r h n c = elim (cases-bool (r .has h n))
-    [ inl e ↦ let l = held-counts r h n c e in let z : one (r .has h n) ≡ 1 = ap one e in omega arith
-    | inr e ↦ let z : one (r .has h n) ≡ 0 = ap one e in omega arith ]
+struck-count r h n c = elim (cases-bool (r .has h n)) [
+  | inl e ↦ let l = held-counts r h n c e in let z : one (r .has h n) ≡ 1 = ap one e in omega arith
+  | inr e ↦ let z : one (r .has h n) ≡ 0 = ap one e in omega arith
+]
 
 struck-gain : (m : List ℕ) (r : Pairs) (h n : ℕ) (ps : List Object) → Counted r → struck r h n .count + tally m r ps ≤ r .count + tally m (struck r h n) ps
-struck-gain m r h n ps c = elim (cases-bool (r .has h n))
-    [ inl e ↦ let a = struck-count r h n c in let b = tally-struck m r h n ps in let z : one (r .has h n) ≡ 1 = ap one e in omega arith
-    | inr e ↦ let a = struck-count r h n c in
-        let b = tally-mono m r (struck r h n) ps (λ g k u. has-struck r h n g k (elim (cases-bool (same-pair h n g k))
-              [ inl t ↦ let p = same-pair-is h n g k t in absurd (both-ways (r .has h n) e (sym (ap (λ (x : ℕ). r .has x k) (p .0) ∙ ap (r .has h) (p .1)) ∙ u)) | inr t ↦ t ]) ∙ u) in
-        omega arith ]
+struck-gain m r h n ps c = elim (cases-bool (r .has h n)) [
+  | inl e ↦ let a = struck-count r h n c in let b = tally-struck m r h n ps in let z : one (r .has h n) ≡ 1 = ap one e in omega arith
+  | inr e ↦ let a = struck-count r h n c in
+      let b = tally-mono m r (struck r h n) ps (λ g k u. has-struck r h n g k (elim (cases-bool (same-pair h n g k))
+      [ inl t ↦ let p = same-pair-is h n g k t in absurd (both-ways (r .has h n) e (sym (ap (λ (x : ℕ). r .has x k) (p .0) ∙ ap (r .has h) (p .1)) ∙ u)) | inr t ↦ t ]) ∙ u) in
+      omega arith
+]
 
 discard-gain : (m : List ℕ) (t : ℕ) (ps : List Object) (p : Pool) (r : Pairs) → Counted r →
     (discard m t ps p r .register .count + tally m r ps ≤ r .count + tally m (discard m t ps p r .register) (discard m t ps p r .left)) × Counted (discard m t ps p r .register)
 discard-gain m t [] p r c = (omega arith, c)
 discard-gain m t (_∷_ o os) p r c = by-test (ltb (o .head) t) _ _ (λ (x : Discarded). (x .register .count + tally m r (o ∷ os) ≤ r .count + tally m (x .register) (x .left)) × Counted (x .register))
     (λ e. let h = object-hash m o in
-      let ih = discard-gain m t os (slot-back p (o .slot) (links-of o)) (struck r h (length os)) (counted-struck r h (length os) c) in
-      let a = struck-count r h (length os) c in
-      let b = tally-strike m r h (length os) os (omega arith) in
-      let i = ih .0 in (omega arith, ih .1))
+    let ih = discard-gain m t os (slot-back p (o .slot) (links-of o)) (struck r h (length os)) (counted-struck r h (length os) c) in
+    let a = struck-count r h (length os) c in
+    let b = tally-strike m r h (length os) os (omega arith) in
+    let i = ih .0 in (omega arith, ih .1))
     (λ e. (omega arith, c))
 
 -- ---- entering
@@ -124,10 +127,11 @@ own-gain : (m : List ℕ) (r : Pairs) (o : Object) (ps : List Object) →
 own-gain m r o ps =
     let h = object-hash m o in let k = length ps in
     let a = tally-mono m r (entered r h k) ps (λ g j e. has-entered r h k g j e) in
-    elim (entering r h k)
-      [ held e c ↦ omega arith
+    elim (entering r h k) [
+      | held e c ↦ omega arith
       | joins e f l c ↦ let z : one (entered r h k .has h k) ≡ 1 = ap one (entered-has r h k f) in omega arith
-      | full f c ↦ omega arith ]
+      | full f c ↦ omega arith
+    ]
 
 -- ---- over a call
 
@@ -155,7 +159,7 @@ module _ (n : ℕ) (c : Call) (s : State) (sound : Sound-state n s) (r : Pairs) 
   discard-gains t p e =
       let d = discard-gain (s .memory) t (s .packed) p r ok in
       subst (λ (x : List ℕ). Gain c s r x (discard (s .memory) t (s .packed) p r .left) (discard (s .memory) t (s .packed) p r .register)) (sym e)
-        (record { gained = let a = d .0 in omega arith; counted = d .1; capacity = discard-capacity (s .memory) t (s .packed) p r })
+      (record { gained = let a = d .0 in omega arith; counted = d .1; capacity = discard-capacity (s .memory) t (s .packed) p r })
 
   effect-gain : {t : ℕ} {a : Answer} {os ps : List Object} {p : Pool} {r′ : Pairs} → Effect c s r m t a os ps p r′ → Gain c s r m ps r′
   effect-gain (same _) = same-gain

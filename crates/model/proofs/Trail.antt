@@ -45,16 +45,18 @@ module _ {c : Call} {a : Answer} (s : State) where
   stays os q j o e = was o (ap (λ (x : List Object). numbered x j) q ∙ e) (λ i l h. h)
 
   opening-kind : (j : ℕ) (o : Object) → numbered (opened-in s ∷ s .opened) j ≡ Some o → Kind c a s (opened-in s ∷ s .opened) j o
-  opening-kind j o e = elim (cases-bool (eqb (length (s .opened)) j))
-      [ inl u ↦ fresh (sym (ap (λ (x : Object). x .real) (numbered-first (opened-in s) o (s .opened) j (eqb-true (length (s .opened)) j u) e)))
-      | inr u ↦ was o (sym (numbered-there (opened-in s) (s .opened) j (eqb-false (length (s .opened)) j u)) ∙ e) (λ i l h. h) ]
+  opening-kind j o e = elim (cases-bool (eqb (length (s .opened)) j)) [
+    | inl u ↦ fresh (sym (ap (λ (x : Object). x .real) (numbered-first (opened-in s) o (s .opened) j (eqb-true (length (s .opened)) j u) e)))
+    | inr u ↦ was o (sym (numbered-there (opened-in s) (s .opened) j (eqb-false (length (s .opened)) j u)) ∙ e) (λ i l h. h)
+  ]
 
   -- the innermost changed
   first-kind : (o o₁ : Object) (os : List Object) → s .opened ≡ o ∷ os → Kind c a s (o₁ ∷ os) (length os) o₁ → (j : ℕ) (p : Object) → numbered (o₁ ∷ os) j ≡ Some p → Kind c a s (o₁ ∷ os) j p
-  first-kind o o₁ os is k j p e = elim (cases-bool (eqb (length os) j))
-      [ inl u ↦ let g = eqb-true (length os) j u in
-          subst (λ (x : ℕ). Kind c a s (o₁ ∷ os) x p) g (subst (λ (x : Object). Kind c a s (o₁ ∷ os) (length os) x) (numbered-first o₁ p os j g e) k)
-      | inr u ↦ let ne = eqb-false (length os) j u in was p (ap (λ (x : List Object). numbered x j) is ∙ (numbered-there o os j ne ∙ (sym (numbered-there o₁ os j ne) ∙ e))) (λ i l h. h) ]
+  first-kind o o₁ os is k j p e = elim (cases-bool (eqb (length os) j)) [
+    | inl u ↦ let g = eqb-true (length os) j u in
+        subst (λ (x : ℕ). Kind c a s (o₁ ∷ os) x p) g (subst (λ (x : Object). Kind c a s (o₁ ∷ os) (length os) x) (numbered-first o₁ p os j g e) k)
+    | inr u ↦ let ne = eqb-false (length os) j u in was p (ap (λ (x : List Object). numbered x j) is ∙ (numbered-there o os j ne ∙ (sym (numbered-there o₁ os j ne) ∙ e))) (λ i l h. h)
+  ]
 
   closing-kind : (o : Object) (os : List Object) → s .opened ≡ o ∷ os → (j : ℕ) (p : Object) → numbered os j ≡ Some p → Kind c a s os j p
   closing-kind o os is j p e = let l = numbered-below os j p e in was p (ap (λ (x : List Object). numbered x j) is ∙ (numbered-there o os j (λ z. omega arith) ∙ e)) (λ i k h. h)
@@ -62,9 +64,10 @@ module _ {c : Call} {a : Answer} (s : State) where
   cutting-kind : (x y : ℕ) (j : ℕ) (p : Object) → numbered (cut-first x y (s .opened)) j ≡ Some p → Kind c a s (cut-first x y (s .opened)) j p
   cutting-kind x y j p e =
       let v = cut-level x y (s .opened) j p e in
-      was (v .0) (v .1) (λ i l h. elim (v .4)
-        [ inl u ↦ nth-take x (v .0 .real) i l (subst (λ (z : List Link). nth z i ≡ Some l) (u .1) h)
-        | inr u ↦ subst (λ (z : List Link). nth z i ≡ Some l) u h ])
+      was (v .0) (v .1) (λ i l h. elim (v .4) [
+        | inl u ↦ nth-take x (v .0 .real) i l (subst (λ (z : List Link). nth z i ≡ Some l) (u .1) h)
+        | inr u ↦ subst (λ (z : List Link). nth z i ≡ Some l) u h
+      ])
 
 pub effect-opens : {c : Call} {s : State} {r : Pairs} {m : List ℕ} {h : ℕ} {a : Answer} {os ps : List Object} {p : Pool} {r′ : Pairs} → Effect c s r m h a os ps p r′ →
     (j : ℕ) (o : Object) → numbered os j ≡ Some o → Kind c a s os j o
@@ -98,9 +101,10 @@ module _ (s : State) where
       stood (q .0) (q .1) (ap (λ (x : Object). x .real) (some-inj p (t .object) (sym e ∙ t .named)) ∙ t .real)
 
   new-from : (o : Object) (os : List Object) → s .opened ≡ o ∷ os → (k : ℕ) (p : Object) → numbered (moved o s ∷ s .packed) k ≡ Some p → From s os (moved o s ∷ s .packed) k p
-  new-from o os is k p e = elim (cases-bool (eqb (count s) k))
-      [ inl u ↦ let g = eqb-true (count s) k u in closed o os (sym g) is refl (sym (ap (λ (x : Object). x .real) (numbered-first (moved o s) p (s .packed) k g e))) (ap suc g)
-      | inr u ↦ stood p (sym (numbered-there (moved o s) (s .packed) k (eqb-false (count s) k u)) ∙ e) refl ]
+  new-from o os is k p e = elim (cases-bool (eqb (count s) k)) [
+    | inl u ↦ let g = eqb-true (count s) k u in closed o os (sym g) is refl (sym (ap (λ (x : Object). x .real) (numbered-first (moved o s) p (s .packed) k g e))) (ap suc g)
+    | inr u ↦ stood p (sym (numbered-there (moved o s) (s .packed) k (eqb-false (count s) k u)) ∙ e) refl
+  ]
 
   relent-from : (os ps : List Object) → Relent (s .packed) ps → (k : ℕ) (p : Object) → numbered ps k ≡ Some p → From s os ps k p
   relent-from os ps t = stood-from os ps (λ k p e l. relent-still (s .packed) ps t k p e) (rw (relent-length (s .packed) ps t) (omega arith))

@@ -77,13 +77,14 @@ same-link-true k l e =
     let c = and-parts (eqb (whence-code (k .whence)) (whence-code (l .whence))) _ (b .1) in
     let d = and-parts (eqb (k .bias) (l .bias)) _ (c .1) in
     let f = and-parts (eqb (k .position) (l .position)) _ (d .1) in
-    λ i. record
-      { width = width-inj (k .width) (l .width) (eqb-true (bytes-of-width (k .width)) (bytes-of-width (l .width)) (a .0)) i
-      ; «is_signed» = same-mark-true (k .«is_signed») (l .«is_signed») (b .0) i
-      ; whence = whence-inj (k .whence) (l .whence) (eqb-true (whence-code (k .whence)) (whence-code (l .whence)) (c .0)) i
-      ; bias = eqb-true (k .bias) (l .bias) (d .0) i
-      ; position = eqb-true (k .position) (l .position) (f .0) i
-      ; objidx = index (eqb-true (k .objidx .0) (l .objidx .0) (f .1) i) }
+    λ i. record {
+      width = width-inj (k .width) (l .width) (eqb-true (bytes-of-width (k .width)) (bytes-of-width (l .width)) (a .0)) i;
+      «is_signed» = same-mark-true (k .«is_signed») (l .«is_signed») (b .0) i;
+      whence = whence-inj (k .whence) (l .whence) (eqb-true (whence-code (k .whence)) (whence-code (l .whence)) (c .0)) i;
+      bias = eqb-true (k .bias) (l .bias) (d .0) i;
+      position = eqb-true (k .position) (l .position) (f .0) i;
+      objidx = index (eqb-true (k .objidx .0) (l .objidx .0) (f .1) i);
+    }
 
 same-link-refl : (k : Link) → same-link k k ≡ true
 same-link-refl k =
@@ -122,7 +123,7 @@ module _ (m : List ℕ) (r : Pairs) (h : ℕ) (bs : List ℕ) (ls : List Link) w
   match-to k p t =
       and-from (r .has h k) _ (t .entered)
       (and-from (same-bytes (part m (p .head) (p .tail)) bs) (same-links (p .real) ls) (subst (λ (x : List ℕ). same-bytes (part m (p .head) (p .tail)) x ≡ true) (t .bytes) (same-bytes-refl (part m (p .head) (p .tail))))
-        (subst (λ (x : List Link). same-links (p .real) x ≡ true) (t .links) (same-links-refl (p .real))))
+      (subst (λ (x : List Link). same-links (p .real) x ≡ true) (t .links) (same-links-refl (p .real))))
 
   pub record Found (ps : List Object) (k : ℕ) : Type 0 where
     pub object : Object
@@ -138,15 +139,17 @@ module _ (m : List ℕ) (r : Pairs) (h : ℕ) (bs : List ℕ) (ls : List Link) w
   searching p ps (Some k) f =
       let l = numbered-below ps k (f .object) (f .named) in
       record { object = f .object; named = numbered-there p ps k (λ z. omega arith) ∙ f .named; match = f .match; least = λ j q u n. f .least j q u (sym (numbered-there p ps j (λ z. omega arith)) ∙ n) }
-  searching p ps None f = elim (cases-bool (matches m r h bs ls (length ps) p))
-      [ inl t ↦ subst (λ (b : Bool). Searched (p ∷ ps) (cond b (Some (length ps)) None)) (sym t)
-          (record { object = p; named = numbered-here p ps; match = match-from (length ps) p t; least = λ j q u n. f j q (sym (numbered-there p ps j (λ z. omega arith)) ∙ n) })
-      | inr t ↦ subst (λ (b : Bool). Searched (p ∷ ps) (cond b (Some (length ps)) None)) (sym t)
-          (λ j q n w. elim (cases-bool (eqb (length ps) j))
-            [ inl u ↦ let g : length ps ≡ j = eqb-true (length ps) j u in
-                let v : p ≡ q = numbered-first p q ps j g n in
-                both-ways (matches m r h bs ls (length ps) p) t (subst (λ (x : ℕ). matches m r h bs ls x p ≡ true) (sym g) (subst (λ (x : Object). matches m r h bs ls j x ≡ true) (sym v) (match-to j q w)))
-            | inr u ↦ f j q (sym (numbered-there p ps j (eqb-false (length ps) j u)) ∙ n) w ]) ]
+  searching p ps None f = elim (cases-bool (matches m r h bs ls (length ps) p)) [
+    | inl t ↦ subst (λ (b : Bool). Searched (p ∷ ps) (cond b (Some (length ps)) None)) (sym t)
+        (record { object = p; named = numbered-here p ps; match = match-from (length ps) p t; least = λ j q u n. f j q (sym (numbered-there p ps j (λ z. omega arith)) ∙ n) })
+    | inr t ↦ subst (λ (b : Bool). Searched (p ∷ ps) (cond b (Some (length ps)) None)) (sym t)
+        (λ j q n w. elim (cases-bool (eqb (length ps) j)) [
+          | inl u ↦ let g : length ps ≡ j = eqb-true (length ps) j u in
+              let v : p ≡ q = numbered-first p q ps j g n in
+              both-ways (matches m r h bs ls (length ps) p) t (subst (λ (x : ℕ). matches m r h bs ls x p ≡ true) (sym g) (subst (λ (x : Object). matches m r h bs ls j x ≡ true) (sym v) (match-to j q w)))
+          | inr u ↦ f j q (sym (numbered-there p ps j (eqb-false (length ps) j u)) ∙ n) w
+        ])
+  ]
 
   pub twin-searched : (ps : List Object) → Searched ps (twin m r h bs ls ps)
   twin-searched [] = λ j q n w. none-some q n
