@@ -1,18 +1,15 @@
--- Laws of walks, and what splitting and joining chains does to all of them.
+-- Laws of walks: their lengths and parts, and what a write to a cell does to them.
 use mathlib.Core.Path.{_≡_, refl, sym, ap, subst, _∙_}
-use mathlib.Core.List.{List, [], _∷_, _++_, map}
-use mathlib.Core.Bool.{Bool, true, false, cond}
+use mathlib.Core.List.{List, [], _∷_, _++_}
 use mathlib.Core.Logic.{_≢_, _⊎_, inl, inr}
 use Prim.Native.Nat.{ℕ, zero, suc, _+_, _-_, _<_, _≤_}
-use native.Mathlib.Nat.{sub-zero, suc-sub-suc, suc-add, zero-add, zero-sub}
+use native.Mathlib.Nat.{sub-zero, suc-sub-suc, suc-add, zero-add}
 use native.Mathlib.Numerals.{add-one}
 use native.Mathlib.Omega.{arith}
 use lib.ListN.{length, getD, set, take, drop}
-use lib.Dec.{eqb, ltb}
-use Rattle.std.proofs.shelf.Lists.{getD-set-same, getD-set-other, length-set, map-set, getD-map, length-map}
-use Rattle.std.proofs.shelf.Tests.{eqb-true, eqb-false, eq-eqb, ne-eqb, cases-bool, cases-eq}
-use Rattle.links.specs.declared.chains.Chain.{Chain}
-use Rattle.links.specs.Walk.{walk, hop, nodes, table, last-of, occ, sum-of, Once, Ends, Ended, Filled, front, back, cat, linked}
+use Rattle.std.proofs.shelf.Lists.{getD-set-same, getD-set-other}
+use Rattle.std.proofs.shelf.Tests.{eq-eqb, ne-eqb, cases-eq}
+use Rattle.links.specs.Walk.{walk, hop, last-of, occ}
 
 pub walk-length : (ns : List ℕ) (s n : ℕ) → length (walk ns s n) ≡ n
 walk-length ns s zero = refl

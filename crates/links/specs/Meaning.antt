@@ -7,7 +7,6 @@ use lib.Dec.{ltb}
 use lib.ListN.{length, getD}
 use Rattle.std.specs.Of.Vec.{vec-items, vec-len}
 use Rattle.link.specs.declared.Link.{Link}
-use Rattle.link.specs.declared.ObjIdx.{ObjIdx}
 use Rattle.link.specs.declared.LinkWidth.the-variants.{Zero}
 use Rattle.link.specs.declared.OffsetWhence.the-variants.{Head}
 use Rattle.links.specs.declared.chains.Chain.{Chain}

@@ -1,7 +1,7 @@
 // A chain of cells: its first and last cell, and how many there are. Which cell comes after which is
 // in an array `nexts`, which all chains share.
 ghost use mathlib.Core.Path.{_≡_};
-ghost use Prim.Native.Nat.{ℕ, _+_, _^_, _<_, _≤_};
+ghost use Prim.Native.Nat.{_+_, _^_, _<_, _≤_};
 ghost use Rattle.std.specs.Of.Vec.{vec-items, vec-len};
 ghost use Rattle.links.specs.Walk.{hop, Inside, front, back, cat, linked};
 

@@ -1,4 +1,4 @@
-use mathlib.Core.Path.{sym, _∙_}
+use mathlib.Core.Path.{sym}
 use native.Mathlib.Omega.{arith}
 use Rattle.links.specs.Rest.{rest}
 use Rattle.links.proofs.Reading.{past-list, list-is, read-inside}

@@ -1,7 +1,6 @@
 use mathlib.Core.Path.{ap, sym, _∙_}
 use native.Mathlib.Omega.{arith}
 use Rattle.std.proofs.shelf.Tests.{false≢true}
-use Rattle.links.specs.Meaning.{list-at}
 use Rattle.links.specs.Rest.{rest}
 use Rattle.links.proofs.Reading.{list-length}
 use Rattle.links.proofs.Compare.{level-start, level-more, level-apart, level-short, level-end, not-first, not-second, not-as-long, not-same, same}
