@@ -65,4 +65,11 @@ big-endian-again w bs l e = ap (λ (k : ℕ). big-endian k (number bs)) (sym l) 
 
 pub notation : Notation
 notation =
-    record { long = length-big-endian; bytes = bytes-big-endian; shown = number-big-endian; back = number-back; below = number-below; again = big-endian-again }
+    record {
+      long = length-big-endian;
+      bytes = bytes-big-endian;
+      shown = number-big-endian;
+      back = number-back;
+      below = number-below;
+      again = big-endian-again;
+    }

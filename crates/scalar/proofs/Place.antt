@@ -58,7 +58,8 @@ module _ (m bs : List ℕ) (at w : ℕ) (sized : length bs ≡ w) (has : room m 
       ∙ ap (λ (k : List ℕ). Some (reads k)) part-write
 
 -- a part of w bytes, copied to the front of others, is what is read
-pub read-front : {S : Type 0} (reads : List ℕ → S) (m front others : List ℕ) (at w : ℕ) (s : S) → room m at w ≡ true → front ≡ part m at (at + w) → s ≡ reads (take w (front ++ others)) → Some s ≡ read reads w m at
+pub read-front : {S : Type 0} (reads : List ℕ → S) (m front others : List ℕ) (at w : ℕ) (s : S) → room m at w ≡ true →
+    front ≡ part m at (at + w) → s ≡ reads (take w (front ++ others)) → Some s ≡ read reads w m at
 read-front {S} reads m front others at w s has e r =
     let l : length front ≡ w = ap length e ∙ length-between m at (at + w) (leb-true _ _ has) ∙ omega arith in
     ap Some (r ∙ ap reads (take-at front others w l ∙ e)) ∙ ap (λ (b : Bool). cond b (Some (reads (part m at (at + w)))) None) (sym has)

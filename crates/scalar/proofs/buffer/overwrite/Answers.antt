@@ -15,5 +15,12 @@ returns g c =
     let fits = c .raw-raw .ensures .fits in
     let l : length bs ≡ size = g .S·Scalar·met .sized (c .args .value) fits ∙ sym (c .size-size .ensures) in
     let k : length bs ≡ at + size - at = l ∙ omega arith in
-    let copied = c .copy-from-slice .ensures .after ∙ ap (take (size - 0)) (c .raw-raw .ensures .answer) ∙ take-in-four bs (size - 0) (l ∙ omega arith) in
-    record { answer = c .if-not-has-room .ensures tt ∙ ap (room d at) (c .size-size .ensures); state = putMid-write d bs _ at (at + size - at) copied k; fits = fits }
+    let copied =
+    c .copy-from-slice .ensures .after
+    ∙ ap (take (size - 0)) (c .raw-raw .ensures .answer)
+    ∙ take-in-four bs (size - 0) (l ∙ omega arith) in
+    record {
+      answer = c .if-not-has-room .ensures tt ∙ ap (room d at) (c .size-size .ensures);
+      state = putMid-write d bs _ at (at + size - at) copied k;
+      fits = fits;
+    }

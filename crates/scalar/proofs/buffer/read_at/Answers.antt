@@ -10,4 +10,8 @@ returns g c =
     let d = c .args .buf .now in
     let has = ap (room d at) (sym (c .size-size .ensures)) ∙ sym (c .if-not-has-room .ensures tt) in
     let copied = c .copy-from-slice .ensures .after ∙ ap (λ (s : ℕ). part d at (at + s)) (c .size-size .ensures) in
-    record { answer = read-front (g .S·Scalar .reads) d (c .copy-from-slice .last .self) _ at (g .S·Scalar .width) (c .from-raw .result) has copied (c .from-raw .ensures .answer); fits = c .from-raw .ensures .fits }
+    let front = c .copy-from-slice .last .self in
+    record {
+      answer = read-front (g .S·Scalar .reads) d front _ at (g .S·Scalar .width) (c .from-raw .result) has copied (c .from-raw .ensures .answer);
+      fits = c .from-raw .ensures .fits;
+    }

@@ -11,4 +11,7 @@ use Rattle.scalar.proofs.kinds.scalars.TagScalar.from_raw.Needs as need
 pub returns : need.returns
 returns c =
     let l : length (c .args .raw) ≡ 4 = search needs in
-    record { answer = ap tag (sym (take-all 4 (c .args .raw) (omega arith))); fits = (l, all-from-getD (λ b. b < 256) (c .args .raw) 0 (λ i h. search needs)) }
+    record {
+      answer = ap tag (sym (take-all 4 (c .args .raw) (omega arith)));
+      fits = (l, all-from-getD (λ b. b < 256) (c .args .raw) 0 (λ i h. search needs));
+    }

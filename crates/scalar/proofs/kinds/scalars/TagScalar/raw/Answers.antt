@@ -10,4 +10,7 @@ pub returns : need.returns
 returns c =
     let bs = c .args .self .0 in
     let l : length bs ≡ 4 = search needs in
-    record { answer = sym (in-four-whole bs l); fits = (l, all-from-getD (λ b. b < 256) bs 0 (λ i h. search needs)) }
+    record {
+      answer = sym (in-four-whole bs l);
+      fits = (l, all-from-getD (λ b. b < 256) bs 0 (λ i h. search needs));
+    }
