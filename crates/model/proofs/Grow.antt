@@ -107,7 +107,7 @@ module _ {c : Call} {s : State} {r : Pairs} {m : List ℕ} {h : ℕ} {a : Answer
   effect-grown plain (lends ps n e t) = kept-open s
   effect-grown plain (closes o os is e) = closing s o os is
   effect-grown plain (packs o os is e) = closing s o os is
-  effect-grown plain (packs-entered o os is e) = closing s o os is
+  effect-grown plain (packs-entered o os is e _) = closing s o os is
   effect-grown plain (shares o os ps is e t) = closing s o os is
   effect-grown plain (drops o os is e) = closing s o os is
   effect-grown plain (drops-back o os is e w) = closing s o os is
@@ -124,7 +124,7 @@ module _ {c : Call} {s : State} {r : Pairs} {m : List ℕ} {h : ℕ} {a : Answer
   effect-floor plain (lends ps n e t) f g q = rw (relent-length (s .packed) ps t) g
   effect-floor plain (closes o os is e) f g q = g
   effect-floor plain (packs o os is e) f g q = omega arith
-  effect-floor plain (packs-entered o os is e) f g q = omega arith
+  effect-floor plain (packs-entered o os is e _) f g q = omega arith
   effect-floor plain (shares o os ps is e t) f g q = rw (relent-length (s .packed) ps t) g
   effect-floor plain (drops o os is e) f g q = g
   effect-floor plain (drops-back o os is e w) f g q = discard-floor (s .memory) (o .tail) (s .packed) (s .pool) r f g (q (let z = ap length is in omega arith) o os is)
@@ -141,7 +141,7 @@ module _ {c : Call} {s : State} {r : Pairs} {m : List ℕ} {h : ℕ} {a : Answer
   effect-moves plain (lends ps n e t) = inl (omega arith)
   effect-moves plain (closes o os is e) = inl (omega arith)
   effect-moves plain (packs o os is e) = inr (o, is, e)
-  effect-moves plain (packs-entered o os is e) = inr (o, is, e)
+  effect-moves plain (packs-entered o os is e _) = inr (o, is, e)
   effect-moves plain (shares o os ps is e t) = inr (o, is, e)
   effect-moves plain (drops o os is e) = inl (omega arith)
   effect-moves plain (drops-back o os is e w) = inr (o, is, e)

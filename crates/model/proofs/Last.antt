@@ -90,7 +90,7 @@ effect-persist {s = s} (orders o os l n e _) = persist-same (s .packed)
 effect-persist {s = s} (lends ps n _ t) = λ k p e l. relent-still (s .packed) ps t k p e
 effect-persist {s = s} (closes o os e _) = persist-same (s .packed)
 effect-persist {s = s} (packs o os e _) = persist-new (moved o s) (s .packed)
-effect-persist {s = s} (packs-entered o os e _) = persist-new (moved o s) (s .packed)
+effect-persist {s = s} (packs-entered o os e _ _) = persist-new (moved o s) (s .packed)
 effect-persist {s = s} (shares o os ps e _ t) = λ k p e l. relent-still (s .packed) ps t k p e
 effect-persist {s = s} (drops o os e _) = persist-same (s .packed)
 effect-persist {s = s} {r = r} (drops-back o os e _ w) = discard-persist (s .memory) (o .tail) (s .packed) (s .pool) r
@@ -108,7 +108,7 @@ effect-pairs (orders o os v n u _) h k ne l e = e
 effect-pairs (lends ps n _ t) h k ne l e = e
 effect-pairs (closes o os u _) h k ne l e = e
 effect-pairs (packs o os u _) h k ne l e = e
-effect-pairs {s = s} {r = r} {m = m} (packs-entered o os u _) h k ne l e = has-entered r (object-hash m (moved o s)) (length (s .packed)) h k e
+effect-pairs {s = s} {r = r} {m = m} (packs-entered o os u _ _) h k ne l e = has-entered r (object-hash m (moved o s)) (length (s .packed)) h k e
 effect-pairs (shares o os ps u _ t) h k ne l e = e
 effect-pairs (drops o os u _) h k ne l e = e
 effect-pairs {s = s} {r = r} (drops-back o os u _ w) h k ne l e = discard-pairs (s .memory) (o .tail) (s .packed) (s .pool) r h k l ∙ e

@@ -69,7 +69,7 @@ effect-housed (orders o os l k e _) n d = let z = ap length e in record { apart 
 effect-housed {s = s} (lends ps k _ t) n d = let z = relent-length (s .packed) ps t in record { apart = let x = d .apart in omega arith; within = d .within; limit = d .limit }
 effect-housed (closes o os e _) n d = let z = ap length e in record { apart = let x = d .apart in omega arith; within = d .within; limit = d .limit }
 effect-housed (packs o os e _) n d = let z = ap length e in record { apart = let x = d .apart in omega arith; within = d .within; limit = d .limit }
-effect-housed (packs-entered o os e _) n d = let z = ap length e in record { apart = let x = d .apart in omega arith; within = d .within; limit = d .limit }
+effect-housed (packs-entered o os e _ _) n d = let z = ap length e in record { apart = let x = d .apart in omega arith; within = d .within; limit = d .limit }
 effect-housed {s = s} (shares o os ps e _ t) n d = let z = ap length e in let y = relent-length (s .packed) ps t in record { apart = let x = d .apart in omega arith; within = d .within; limit = d .limit }
 effect-housed (drops o os e _) n d = let z = ap length e in record { apart = let x = d .apart in omega arith; within = d .within; limit = d .limit }
 effect-housed {s = s} {r = r} (drops-back o os e _ w) n d =

@@ -78,7 +78,7 @@ effect-opens {s = s} (orders o os l n is e) = first-kind s o (with-virtual o l) 
 effect-opens {s = s} (lends ps n e t) = stays s (s .opened) refl
 effect-opens {s = s} (closes o os is e) = closing-kind s o os is
 effect-opens {s = s} (packs o os is e) = closing-kind s o os is
-effect-opens {s = s} (packs-entered o os is e) = closing-kind s o os is
+effect-opens {s = s} (packs-entered o os is e _) = closing-kind s o os is
 effect-opens {s = s} (shares o os ps is e t) = closing-kind s o os is
 effect-opens {s = s} (drops o os is e) = closing-kind s o os is
 effect-opens {s = s} (drops-back o os is e w) = closing-kind s o os is
@@ -118,7 +118,7 @@ effect-packs {s = s} (orders o os l n is e) = stay s (with-virtual o l ∷ os)
 effect-packs {s = s} (lends ps n e t) = relent-from s (s .opened) ps t
 effect-packs {s = s} (closes o os is e) = stay s os
 effect-packs {s = s} (packs o os is e) = new-from s o os is
-effect-packs {s = s} (packs-entered o os is e) = new-from s o os is
+effect-packs {s = s} (packs-entered o os is e _) = new-from s o os is
 effect-packs {s = s} (shares o os ps is e t) = relent-from s os ps t
 effect-packs {s = s} (drops o os is e) = stay s os
 effect-packs {s = s} {r = r} (drops-back o os is e w) = stood-from s os _ (discard-persist (s .memory) (o .tail) (s .packed) (s .pool) r) (discard-fewer (s .memory) (o .tail) (s .packed) (s .pool) r)

@@ -17,3 +17,4 @@ pub mod Stacking
 pub mod Sharing
 pub mod Offsets
 pub mod Law
+pub mod Standing
