@@ -18,3 +18,4 @@ pub mod Sharing
 pub mod Offsets
 pub mod Law
 pub mod Standing
+pub mod Owning
