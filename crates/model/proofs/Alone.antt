@@ -90,7 +90,7 @@ module _ (c : Call) (s : State) (r : Pairs) (m : List ℕ) (own : Owns (s .memor
 
   effect-held : {t : ℕ} {a : Answer} {os ps : List Object} {p : Pool} {r′ : Pairs} → Effect c s r m t a os ps p r′ → (h k : ℕ) → r′ .has h k ≡ true → Held s r m ps h k
   effect-held (same _) h k e = kept h k e
-  effect-held (opens _ _) h k e = kept h k e
+  effect-held (opens _ _ _) h k e = kept h k e
   effect-held (links o os l n _ _ _) h k e = kept h k e
   effect-held (orders o os l n _ _) h k e = kept h k e
   effect-held (lends ps n _ v) h k e = record { was = inl (e, rw (relent-length (s .packed) ps v) (low h k e)) }

@@ -109,7 +109,7 @@ with-virtual o l = record { slot = o .slot; head = o .head; tail = o .tail; real
 -- from the state s and the register r, with the call c that answers a and leaves the memory m and the head h: the open and the packed objects, the slots and the register then
 pub data Effect (c : Call) (s : State) (r : Pairs) (m : List ℕ) (h : ℕ) (a : Answer) : List Object → List Object → Pool → Pairs → Type 0 where
   same : s .head ≤ h → Effect c s r m h a (s .opened) (s .packed) (s .pool) r
-  opens : slot-free (s .pool) ≡ true → h ≡ s .head → Effect c s r m h a (opened-in s ∷ s .opened) (s .packed) (slot-taken (s .pool)) r
+  opens : flagged s ≡ false → slot-free (s .pool) ≡ true → h ≡ s .head → Effect c s r m h a (opened-in s ∷ s .opened) (s .packed) (slot-taken (s .pool)) r
   links : (o : Object) (os : List Object) (l : Link) (n : ℕ) → s .opened ≡ o ∷ os → h ≡ s .head → Adds c a o l → Effect c s r m h a (with-link o l ∷ os) (s .packed) (with-linked (s .pool) n) r
   orders : (o : Object) (os : List Object) (l : Link) (n : ℕ) → s .opened ≡ o ∷ os → h ≡ s .head → Effect c s r m h a (with-virtual o l ∷ os) (s .packed) (with-linked (s .pool) n) r
   lends : (ps : List Object) (n : ℕ) → h ≡ s .head → Relent (s .packed) ps → Effect c s r m h a (s .opened) ps (with-linked (s .pool) n) r
@@ -288,8 +288,8 @@ module _ (from to : ℕ) (k : ObjIdx) (w : OffsetWhence) (b : ℕ) (g : Bool) (s
 
 pub call-effect : (c : Call) (s : State) (r : Pairs) (an : List Answer) → Effects c s r (call c s r an .answer) (call c s r an .state) (call c s r an .register)
 call-effect (SetErr f) s r an = guards (SetErr f) s r Flags no-tests (λ g. g) (setting f) (λ no. unmoved (SetErr f) s r)
-call-effect Start s r an = guards Start s r Done start-tests Err opening (λ no. opens (not-false _ (no .1 .1 .0)) refl)
-call-effect Push s r an = guards Push s r Done push-tests Err opening (λ no. opens (not-false _ (no .1 .0)) refl)
+call-effect Start s r an = guards Start s r Done start-tests Err opening (λ no. opens (no .1 .0) (not-false _ (no .1 .1 .0)) refl)
+call-effect Push s r an = guards Push s r Done push-tests Err opening (λ no. opens (no .0) (not-false _ (no .1 .0)) refl)
 call-effect (Allocate k z) s r an = guards (Allocate k z) s r Place (room-tests k) Err (allocating k z) (λ no. same (omega arith))
 call-effect (Pad k) s r an = guards (Pad k) s r Place (room-tests k) Err (allocating k false) (λ no. same (omega arith))
 call-effect (Embed bs) s r an = guards (Embed bs) s r Place (room-tests (length bs)) Err (writing bs) (λ no. same (omega arith))

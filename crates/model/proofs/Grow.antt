@@ -101,7 +101,7 @@ module _ (s : State) where
 module _ {c : Call} {s : State} {r : Pairs} {m : List ℕ} {h : ℕ} {a : Answer} where
   effect-grown : {os ps : List Object} {p : Pool} {r′ : Pairs} → (Turns (role c) → ⊥) → Effect c s r m h a os ps p r′ → Grows s os
   effect-grown plain (same l) = kept-open s
-  effect-grown plain (opens f e) = grown-open (s .head) (s .tail) (opened-in s) (s .opened) refl refl
+  effect-grown plain (opens _ f e) = grown-open (s .head) (s .tail) (opened-in s) (s .opened) refl refl
   effect-grown plain (links o os l n is e b) = changing s o (with-link o l) os is (record { head = refl; tail = refl; links = simp length-append (omega arith) })
   effect-grown plain (orders o os l n is e) = changing s o (with-virtual o l) os is (record { head = refl; tail = refl; links = omega arith })
   effect-grown plain (lends ps n e t) = kept-open s
@@ -118,7 +118,7 @@ module _ {c : Call} {s : State} {r : Pairs} {m : List ℕ} {h : ℕ} {a : Answer
 
   effect-floor : {os ps : List Object} {p : Pool} {r′ : Pairs} → (Turns (role c) → ⊥) → Effect c s r m h a os ps p r′ → Floor s os ps
   effect-floor plain (same l) f g q = g
-  effect-floor plain (opens u e) f g q = g
+  effect-floor plain (opens _ u e) f g q = g
   effect-floor plain (links o os l n is e b) f g q = g
   effect-floor plain (orders o os l n is e) f g q = g
   effect-floor plain (lends ps n e t) f g q = rw (relent-length (s .packed) ps t) g
@@ -135,7 +135,7 @@ module _ {c : Call} {s : State} {r : Pairs} {m : List ℕ} {h : ℕ} {a : Answer
 
   effect-moves : {os ps : List Object} {p : Pool} {r′ : Pairs} → (Turns (role c) → ⊥) → Effect c s r m h a os ps p r′ → Moves s h os
   effect-moves plain (same l) = inl l
-  effect-moves plain (opens u e) = inl (omega arith)
+  effect-moves plain (opens _ u e) = inl (omega arith)
   effect-moves plain (links o os l n is e b) = inl (omega arith)
   effect-moves plain (orders o os l n is e) = inl (omega arith)
   effect-moves plain (lends ps n e t) = inl (omega arith)

@@ -84,7 +84,7 @@ discard-pairs m t (_∷_ o os) p r h k = by-test (ltb (o .head) t) _ _ (λ (x : 
 
 pub effect-persist : {c : Call} {s : State} {r : Pairs} {m : List ℕ} {t : ℕ} {a : Answer} {os ps : List Object} {p : Pool} {r′ : Pairs} → Effect c s r m t a os ps p r′ → Persist (s .packed) ps
 effect-persist {s = s} (same _) = persist-same (s .packed)
-effect-persist {s = s} (opens e _) = persist-same (s .packed)
+effect-persist {s = s} (opens _ e _) = persist-same (s .packed)
 effect-persist {s = s} (links o os l n e _ a) = persist-same (s .packed)
 effect-persist {s = s} (orders o os l n e _) = persist-same (s .packed)
 effect-persist {s = s} (lends ps n _ t) = λ k p e l. relent-still (s .packed) ps t k p e
@@ -102,7 +102,7 @@ effect-persist {s = s} (strikes h k e _) = persist-same (s .packed)
 pub effect-pairs : {c : Call} {s : State} {r : Pairs} {m : List ℕ} {t : ℕ} {a : Answer} {os ps : List Object} {p : Pool} {r′ : Pairs} → Effect c s r m t a os ps p r′ →
     (h k : ℕ) → c ≢ OwnerStrike h (index k) → k < length ps → r .has h k ≡ true → r′ .has h k ≡ true
 effect-pairs (same _) h k ne l e = e
-effect-pairs (opens u _) h k ne l e = e
+effect-pairs (opens _ u _) h k ne l e = e
 effect-pairs (links o os v n u _ w) h k ne l e = e
 effect-pairs (orders o os v n u _) h k ne l e = e
 effect-pairs (lends ps n _ t) h k ne l e = e

@@ -163,7 +163,7 @@ module _ (n : ℕ) (c : Call) (s : State) (sound : Sound-state n s) (r : Pairs) 
 
   effect-gain : {t : ℕ} {a : Answer} {os ps : List Object} {p : Pool} {r′ : Pairs} → Effect c s r m t a os ps p r′ → Gain c s r m ps r′
   effect-gain (same _) = same-gain
-  effect-gain (opens e _) = same-gain
+  effect-gain (opens _ e _) = same-gain
   effect-gain (links o os l k e _ a) = same-gain
   effect-gain (orders o os l k e _) = same-gain
   effect-gain (lends ps k _ t) = relent-gain ps t
