@@ -45,11 +45,12 @@ struck-held r h n g k e = let p = and-parts (r .has g k) (not (same-pair h n g k
 owns-less : (m : List ℕ) (r : Pairs) (o : Object) (os : List Object) → Owns m r (o ∷ os) → Owns m (struck r (object-hash m o) (length os)) os
 owns-less m r o os own h k e =
     let s = struck-held r (object-hash m o) (length os) h k e in let q = own h k (s .0) in
-    elim (cases-eq (length os) k)
-      [ inl u ↦ let v = numbered-first o (q .0) os k u (q .1) in
+    elim (cases-eq (length os) k) [
+      | inl u ↦ let v = numbered-first o (q .0) os k u (q .1) in
           absurd (both-ways (same-pair (object-hash m o) (length os) h k) (s .1)
-            (subst (λ (x : ℕ). same-pair (object-hash m o) (length os) h x ≡ true) u (subst (λ (x : ℕ). same-pair (object-hash m o) (length os) x (length os) ≡ true) (sym (q .2 ∙ ap (object-hash m) (sym v))) (same-pair-self (object-hash m o) (length os)))))
-      | inr u ↦ (q .0, sym (numbered-there o os k u) ∙ q .1, q .2) ]
+          (subst (λ (x : ℕ). same-pair (object-hash m o) (length os) h x ≡ true) u (subst (λ (x : ℕ). same-pair (object-hash m o) (length os) x (length os) ≡ true) (sym (q .2 ∙ ap (object-hash m) (sym v))) (same-pair-self (object-hash m o) (length os)))))
+      | inr u ↦ (q .0, sym (numbered-there o os k u) ∙ q .1, q .2)
+    ]
 
 discard-owns : (m : List ℕ) (t : ℕ) (ps : List Object) (p : Pool) (r : Pairs) → Owns m r ps → Owns m (discard m t ps p r .register) (discard m t ps p r .left)
 discard-owns m t [] p r own = own
@@ -96,10 +97,11 @@ module _ (c : Call) (s : State) (r : Pairs) (m : List ℕ) (own : Owns (s .memor
   effect-held (lends ps n _ v) h k e = record { was = inl (e, rw (relent-length (s .packed) ps v) (low h k e)) }
   effect-held (closes o os _ _) h k e = kept h k e
   effect-held (packs o os _ _) h k e = record { was = inl (e, let l = low h k e in omega arith) }
-  effect-held (packs-entered o os _ _ w) h k e = elim (or-cases (r .has h k) (fits r (object-hash m (moved o s)) (length (s .packed)) && same-pair (object-hash m (moved o s)) (length (s .packed)) h k) e)
-      [ inl u ↦ record { was = inl (u, let l = low h k u in omega arith) }
-      | inr u ↦ let v = same-pair-is (object-hash m (moved o s)) (length (s .packed)) h k (and-parts (fits r (object-hash m (moved o s)) (length (s .packed))) _ u .1) in
-          record { was = inr (record { object = moved o s; number = v .1; packed = refl; hashed = v .0; missed = w }) } ]
+  effect-held (packs-entered o os _ _ w) h k e = elim (or-cases (r .has h k) (fits r (object-hash m (moved o s)) (length (s .packed)) && same-pair (object-hash m (moved o s)) (length (s .packed)) h k) e) [
+    | inl u ↦ record { was = inl (u, let l = low h k u in omega arith) }
+    | inr u ↦ let v = same-pair-is (object-hash m (moved o s)) (length (s .packed)) h k (and-parts (fits r (object-hash m (moved o s)) (length (s .packed))) _ u .1) in
+        record { was = inr (record { object = moved o s; number = v .1; packed = refl; hashed = v .0; missed = w }) }
+  ]
   effect-held (shares o os ps _ _ v) h k e = record { was = inl (e, rw (relent-length (s .packed) ps v) (low h k e)) }
   effect-held (drops o os _ _) h k e = kept h k e
   effect-held (drops-back o os _ _ _) h k e = gone (o .tail) (s .pool) h k e
@@ -147,19 +149,24 @@ module _ (b : Beginning) (c : Call) (cs : List Call) (going : at b (_∷_ c cs) 
       let q = numbered-is (s .packed) k l in
       let t = effect-persist (call-effect c s r (run b cs .answers)) k (q .0) (q .1) (numbered-below (s′ .packed) k p′ e) in
       let v = some-inj p′ (t .object) (sym e ∙ t .named) in
-      record { object = q .0; named = q .1
-        ; bytes = ap (bytes-in (s′ .memory)) v ∙ still-bytes (span b) s s′ (run-sound b cs) unwritten k (q .0) (q .1) t; real = ap (λ (x : Object). x .real) v ∙ t .real }
+      record {
+        object = q .0;
+        named = q .1;
+        bytes = ap (bytes-in (s′ .memory)) v ∙ still-bytes (span b) s s′ (run-sound b cs) unwritten k (q .0) (q .1) t;
+        real = ap (λ (x : Object). x .real) v ∙ t .real;
+      }
 
   hash-before : (k : ℕ) (p′ : Object) (w : Before k p′) → object-hash (s′ .memory) p′ ≡ object-hash (s .memory) (w .object)
   hash-before k p′ w = ap (λ (x : List ℕ). hash x (p′ .real)) (w .bytes) ∙ ap (hash (bytes-in (s .memory) (w .object))) (w .real)
 
   owns-next : Owns (s′ .memory) r′ (s′ .packed)
-  owns-next h k e = elim (held h k e .was)
-      [ inl u ↦ let q = own h k (u .0) in
-          let p = numbered-is (s′ .packed) k (u .1) in
-          let w = before k (p .0) (p .1) (numbered-below (s .packed) k (q .0) (q .1)) in
-          (p .0, p .1, q .2 ∙ (ap (object-hash (s .memory)) (some-inj (q .0) (w .object) (sym (q .1) ∙ w .named)) ∙ sym (hash-before k (p .0) w)))
-      | inr u ↦ (u .object, ap (λ (x : List Object). numbered x k) (u .packed) ∙ numbered-at (u .object) (s .packed) k (sym (u .number)), u .hashed) ]
+  owns-next h k e = elim (held h k e .was) [
+    | inl u ↦ let q = own h k (u .0) in
+        let p = numbered-is (s′ .packed) k (u .1) in
+        let w = before k (p .0) (p .1) (numbered-below (s .packed) k (q .0) (q .1)) in
+        (p .0, p .1, q .2 ∙ (ap (object-hash (s .memory)) (some-inj (q .0) (w .object) (sym (q .1) ∙ w .named)) ∙ sym (hash-before k (p .0) w)))
+    | inr u ↦ (u .object, ap (λ (x : List Object). numbered x k) (u .packed) ∙ numbered-at (u .object) (s .packed) k (sym (u .number)), u .hashed)
+  ]
 
   -- a new object has no equal one among those entered
   new-alone : (j k : ℕ) (p q : Object) → numbered (s′ .packed) j ≡ Some p → numbered (s′ .packed) k ≡ Some q → r .has (object-hash (s′ .memory) p) j ≡ true → (u : Newly s r (s′ .memory) (s′ .packed) (object-hash (s′ .memory) q) k) →
@@ -173,9 +180,11 @@ module _ (b : Beginning) (c : Call) (cs : List Call) (going : at b (_∷_ c cs) 
       let ls : p .real ≡ o .real = y ∙ ap (λ (x : Object). x .real) (sym v) in
       let none-found = subst (Searched (s′ .memory) r (object-hash (s′ .memory) o) (bytes-in (s′ .memory) o) (o .real) (s .packed)) (u .missed) (twin-searched (s′ .memory) r (object-hash (s′ .memory) o) (bytes-in (s′ .memory) o) (o .real) (s .packed)) in
       none-found j (w .object) (w .named)
-        (record
-          { entered = subst (λ (x : List Link). r .has (hash (bytes-in (s′ .memory) o) x) j ≡ true) ls (subst (λ (x : List ℕ). r .has (hash x (p .real)) j ≡ true) bs h)
-          ; bytes = same-place j p e w ∙ bs; links = sym (w .real) ∙ ls })
+      (record {
+        entered = subst (λ (x : List Link). r .has (hash (bytes-in (s′ .memory) o) x) j ≡ true) ls (subst (λ (x : List ℕ). r .has (hash x (p .real)) j ≡ true) bs h);
+        bytes = same-place j p e w ∙ bs;
+        links = sym (w .real) ∙ ls;
+      })
     where
       -- the object's bytes, read where it stood before
       same-place : (j : ℕ) (p : Object) → numbered (s′ .packed) j ≡ Some p → (w : Before j p) → bytes-in (s′ .memory) (w .object) ≡ bytes-in (s′ .memory) p
@@ -193,7 +202,7 @@ module _ (b : Beginning) (c : Call) (cs : List Call) (going : at b (_∷_ c cs) 
           let zj = own (object-hash (s′ .memory) p) j (u .0) in let zk = own (object-hash (s′ .memory) q) k (v .0) in
           let a = before j p e (numbered-below (s .packed) j (zj .0) (zj .1)) in let d = before k q f (numbered-below (s .packed) k (zk .0) (zk .1)) in
           alone j k (a .object) (d .object) (a .named) (d .named) (subst (λ (x : ℕ). r .has x j ≡ true) (hash-before j p a) (u .0)) (subst (λ (x : ℕ). r .has x k ≡ true) (hash-before k q d) (v .0))
-            (sym (a .bytes) ∙ (x ∙ d .bytes)) (sym (a .real) ∙ (y ∙ d .real))
+          (sym (a .bytes) ∙ (x ∙ d .bytes)) (sym (a .real) ∙ (y ∙ d .real))
       go (inl u) (inr v) = absurd (new-alone j k p q e f (u .0) v x y)
       go (inr u) (inl v) = absurd (new-alone k j q p f e (v .0) u (sym x) (sym y))
       go (inr u) (inr v) = u .number ∙ sym (v .number)

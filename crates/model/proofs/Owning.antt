@@ -57,9 +57,10 @@ shares-entered b cs a k e =
     let o = opened-so s r (index k) x in
     let c = pop-closed (span b) s (run-sound b cs) r (o .0) (o .1) (o .2) true k x in
     let l : k < count (at b (_∷_ (PopPack true) cs)) = numbered-below (at b (_∷_ (PopPack true) cs) .packed) k (c .names .object) (c .names .named) in
-    elim (shared-so b cs (a .counted) k (o .0) (o .1) (o .2) e)
-      [ inl w ↦ entered-stays b (PopPack true) cs (run-called b (PopPack true) cs .only-end not-end) k (w .0 .entered) (not-strike (object-hash (s .memory) (w .0 .entered .object)) (index k)) l
-      | inr w ↦ elim (w .2) [ inl t ↦ t | inr f ↦ absurd (let u = f .entered in let y = a .empty in let z = a .untouched in omega arith) ] ]
+    elim (shared-so b cs (a .counted) k (o .0) (o .1) (o .2) e) [
+      | inl w ↦ entered-stays b (PopPack true) cs (run-called b (PopPack true) cs .only-end not-end) k (w .0 .entered) (not-strike (object-hash (s .memory) (w .0 .entered .object)) (index k)) l
+      | inr w ↦ elim (w .2) [ inl t ↦ t | inr f ↦ absurd (let u = f .entered in let y = a .empty in let z = a .untouched in omega arith) ]
+    ]
 
 one-twin : (b : Beginning) (cs : List Call) → Left-alone b cs → at b cs .ended ≡ false → (bs : List ℕ) (ls : List Link) (j k : ℕ) → Twin (run b cs) j bs ls → Twin (run b cs) k bs ls → j ≡ k
 one-twin b cs a going bs ls j k t u =
@@ -68,11 +69,12 @@ one-twin b cs a going bs ls j k t u =
     let e : t .names .object ≡ p = some-inj (t .names .object) p (sym (t .names .named) ∙ t .entered .named) in
     let f : u .names .object ≡ q = some-inj (u .names .object) q (sym (u .names .named) ∙ u .entered .named) in
     w .alone j k p q (t .entered .named) (u .entered .named) (t .entered .entered) (u .entered .entered)
-      (ap (λ (x : Object). bytes-of (at b cs) x) (sym e) ∙ (t .names .bytes ∙ (sym (u .names .bytes) ∙ ap (λ (x : Object). bytes-of (at b cs) x) f)))
-      (ap (λ (x : Object). x .real) (sym e) ∙ (t .names .links ∙ (sym (u .names .links) ∙ ap (λ (x : Object). x .real) f)))
+    (ap (λ (x : Object). bytes-of (at b cs) x) (sym e) ∙ (t .names .bytes ∙ (sym (u .names .bytes) ∙ ap (λ (x : Object). bytes-of (at b cs) x) f)))
+    (ap (λ (x : Object). x .real) (sym e) ∙ (t .names .links ∙ (sym (u .names .links) ∙ ap (λ (x : Object). x .real) f)))
 
 pub owning : Owning
-owning = record
-    { yes = λ b cs a going o os e h k. has-room b cs a going (let z = ap length e in omega arith) h k
-    ; shared = shares-entered
-    ; alone = one-twin }
+owning = record {
+  yes = λ b cs a going o os e h k. has-room b cs a going (let z = ap length e in omega arith) h k;
+  shared = shares-entered;
+  alone = one-twin;
+}

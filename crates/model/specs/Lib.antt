@@ -19,3 +19,4 @@ pub mod Offsets
 pub mod Law
 pub mod Standing
 pub mod Owning
+pub mod Edges
