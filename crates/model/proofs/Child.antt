@@ -31,9 +31,9 @@ use Rattle.model.proofs.Split.{by-test, guarded-keeps}
 use Rattle.model.proofs.Number.{numbered-is, numbered-at, numbered-below, numbered-first, nth-below}
 use Rattle.model.proofs.Last.{still-same, still-then, effect-persist}
 use Rattle.model.proofs.Effect.{Turns, call-effect}
-use Rattle.model.proofs.Moment.{Turning, turning, through-here, through-split, through-snoc, through-join, through-map, split-two, older-split, older-snoc, live-drop, live-taken}
+use Rattle.model.proofs.Moment.{all-here, Turning, turning, through-here, through-split, through-snoc, through-join, through-map, split-two, older-split, older-snoc, live-drop, live-taken}
 use Rattle.model.proofs.Moment.Turning.{ahead, back, away}
-use Rattle.model.proofs.Nest.{Within, Calm, calm-from, undug-here, nest, snap-real}
+use Rattle.model.proofs.Nest.{Within, Calm, Undug, calm-from, nest, snap-real}
 
 -- ---- what stands through calls
 
@@ -103,7 +103,7 @@ module _ (b : Beginning) (n i : ℕ) (l : Link) (adding : Call) (before : List C
       let older : None-older (length bs) ys = older-snoc (length bs) (live .since) Snap (subst (λ (x : ℕ). None-older x (live .since)) (sym (live .then)) (live .not-older)) tt in
       let o : Calm b (length bs) (q .0) bs = calm-from b (length bs) (q .0) bs (older-split (length bs) zs (q .0) (subst (None-older (length bs)) (q .2) older)) in
       let before-live : Live-run b before = live-drop b (adding ∷ []) before (live-drop b m start (run-live .1)) in
-      let w : Within (at b bs) (at b before) = undug-here b before (nest b before before-live) bs (q .0) (q .1) t o in
+      let w : Within (at b bs) (at b before) = all-here (Undug b) before (nest b before before-live) bs (q .0) (q .1) t o in
       let d₁ : depth (at b bs) ≤ depth (at b before) = subst (λ (x : List Call). depth (at b bs) ≤ depth (at b x)) (sym (q .1)) (through-here P (q .0) bs t) in
       let d₂ : depth (at b before) ≡ suc n = ap length opened ∙ ap suc level in
       let d₃ : n < depth (at b ds) = numbered-below (at b ds .opened) n (now .0) (now .1) in
@@ -142,7 +142,7 @@ module _ (b : Beginning) (n i : ℕ) (l : Link) (adding : Call) (before : List C
   counts : (m : List Call) → depth (at b start) ≡ suc n → Live-run b (m ++ start) → Through Keep m start → Through (λ ds. count (at b start) ≤ count (at b ds)) m start
   counts [] d live t = omega arith
   counts (_∷_ c m) d live t = (
-    undug-here b (c ∷ (m ++ start)) (nest b (c ∷ (m ++ start)) live) start (c ∷ m) refl (deep-start d (c ∷ m) t) (calm (c ∷ m) live t) .fewer,
+    all-here (Undug b) (c ∷ (m ++ start)) (nest b (c ∷ (m ++ start)) live) start (c ∷ m) refl (deep-start d (c ∷ m) t) (calm (c ∷ m) live t) .fewer,
     counts m d (live .1) (t .1),
   )
 

@@ -14,6 +14,7 @@ use Rattle.link.specs.declared.ObjIdx.{ObjIdx}
 use Rattle.link.specs.declared.OffsetWhence.{OffsetWhence}
 use Rattle.link.specs.Width.{width-of-length, bytes-of-width}
 use Rattle.register.specs.Pairs.{Pairs, entered, struck}
+use Rattle.scalar.specs.Place.{part}
 use Rattle.std.specs.Options.{isSome, valueOr}
 use Rattle.std.specs.declared.option.Option.{Option}
 use Rattle.std.specs.declared.option.Option.the-variants.{Some, None}
@@ -91,6 +92,10 @@ Turns Reverts-elsewhere = Unit {0}
 Turns Enters = ⊥
 Turns Plain = ⊥
 
+-- the bytes of an object
+abbrev pub bytes-in : List ℕ → Object → List ℕ
+bytes-in m p = part m (p .head) (p .tail)
+
 -- the object that opening adds
 abbrev pub opened-in : State → Object
 opened-in s = record { slot = slot-next (s .pool); head = s .head; tail = s .tail; real = []; virtual = [] }
@@ -104,13 +109,14 @@ with-virtual o l = record { slot = o .slot; head = o .head; tail = o .tail; real
 -- from the state s and the register r, with the call c that answers a and leaves the memory m and the head h: the open and the packed objects, the slots and the register then
 pub data Effect (c : Call) (s : State) (r : Pairs) (m : List ℕ) (h : ℕ) (a : Answer) : List Object → List Object → Pool → Pairs → Type 0 where
   same : s .head ≤ h → Effect c s r m h a (s .opened) (s .packed) (s .pool) r
-  opens : slot-free (s .pool) ≡ true → h ≡ s .head → Effect c s r m h a (opened-in s ∷ s .opened) (s .packed) (slot-taken (s .pool)) r
+  opens : flagged s ≡ false → slot-free (s .pool) ≡ true → h ≡ s .head → Effect c s r m h a (opened-in s ∷ s .opened) (s .packed) (slot-taken (s .pool)) r
   links : (o : Object) (os : List Object) (l : Link) (n : ℕ) → s .opened ≡ o ∷ os → h ≡ s .head → Adds c a o l → Effect c s r m h a (with-link o l ∷ os) (s .packed) (with-linked (s .pool) n) r
   orders : (o : Object) (os : List Object) (l : Link) (n : ℕ) → s .opened ≡ o ∷ os → h ≡ s .head → Effect c s r m h a (with-virtual o l ∷ os) (s .packed) (with-linked (s .pool) n) r
   lends : (ps : List Object) (n : ℕ) → h ≡ s .head → Relent (s .packed) ps → Effect c s r m h a (s .opened) ps (with-linked (s .pool) n) r
   closes : (o : Object) (os : List Object) → s .opened ≡ o ∷ os → h ≡ s .head → Effect c s r m h a os (s .packed) (s .pool) r
   packs : (o : Object) (os : List Object) → s .opened ≡ o ∷ os → h ≡ o .head → Effect c s r m h a os (moved o s ∷ s .packed) (s .pool) r
-  packs-entered : (o : Object) (os : List Object) → s .opened ≡ o ∷ os → h ≡ o .head → Effect c s r m h a os (moved o s ∷ s .packed) (s .pool) (entered r (object-hash m (moved o s)) (length (s .packed)))
+  packs-entered : (o : Object) (os : List Object) → s .opened ≡ o ∷ os → h ≡ o .head → twin m r (object-hash m (moved o s)) (bytes-in m (moved o s)) (o .real) (s .packed) ≡ None →
+      Effect c s r m h a os (moved o s ∷ s .packed) (s .pool) (entered r (object-hash m (moved o s)) (length (s .packed)))
   shares : (o : Object) (os ps : List Object) → s .opened ≡ o ∷ os → h ≡ o .head → Relent (s .packed) ps → Effect c s r m h a os ps (slot-back (s .pool) (o .slot) (length (o .real))) r
   drops : (o : Object) (os : List Object) → s .opened ≡ o ∷ os → h ≡ s .head → Effect c s r m h a os (s .packed) (slot-back (s .pool) (o .slot) (links-of o)) r
   drops-back : (o : Object) (os : List Object) → s .opened ≡ o ∷ os → h ≡ o .head → m ≡ s .memory →
@@ -162,16 +168,17 @@ module _ (c : Call) (s : State) (r : Pairs) where
         (λ e. by-test (linkless o) _ _ (λ (x : Out (Option ObjIdx)). Effect c s r m (x .state .head) a (x .state .opened) (x .state .packed) (x .state .pool) (x .register)) (λ e. closes o os is refl) (λ e. closes o os is refl))
         (λ e. packs o os is refl))
 
-    shared-effect : (k : Option ℕ) → let x = pack-shared (moved o s) (object-hash (move o os s .memory) (moved o s)) k (move o os s) r in Effects c s r a (x .state) (x .register)
-    shared-effect None = packs-entered o os is refl
-    shared-effect (Some k) = shares o os (lend (o .virtual) k (s .packed)) is refl (lend-relent (o .virtual) k (s .packed))
+    shared-effect : (k : Option ℕ) → twin (move o os s .memory) r (object-hash (move o os s .memory) (moved o s)) (bytes-in (move o os s .memory) (moved o s)) (o .real) (s .packed) ≡ k →
+        let x = pack-shared (moved o s) (object-hash (move o os s .memory) (moved o s)) k (move o os s) r in Effects c s r a (x .state) (x .register)
+    shared-effect None e = packs-entered o os is refl e
+    shared-effect (Some k) e = shares o os (lend (o .virtual) k (s .packed)) is refl (lend-relent (o .virtual) k (s .packed))
 
     close-effect : (share : Bool) → Effects c s r a (close share o os s r .state) (close share o os s r .register)
     close-effect false = plain-effect (close false o os s r .state .memory)
     close-effect true = by-test (ltb (s .head) (o .head)) _ _ (λ (x : Out (Option ObjIdx)). Effects c s r a (x .state) (x .register)) (λ e. closes o os is refl)
         (λ e. by-test (eqb (s .head) (o .head)) _ _ (λ (x : Out (Option ObjIdx)). Effects c s r a (x .state) (x .register))
         (λ e. by-test (linkless o) _ _ (λ (x : Out (Option ObjIdx)). Effects c s r a (x .state) (x .register)) (λ e. closes o os is refl) (λ e. closes o os is refl))
-        (λ e. shared-effect (twin (move o os s .memory) r _ _ (o .real) (s .packed))))
+        (λ e. shared-effect (twin (move o os s .memory) r _ _ (o .real) (s .packed)) refl))
 
     discard-effect : Effects c s r a (discard-first (o ∷ os) s r .state) (discard-first (o ∷ os) s r .register)
     discard-effect = by-test (flagged s || (ltb (s .head) (o .head) || ltb (o .tail) (s .tail))) _ _
@@ -281,8 +288,8 @@ module _ (from to : ℕ) (k : ObjIdx) (w : OffsetWhence) (b : ℕ) (g : Bool) (s
 
 pub call-effect : (c : Call) (s : State) (r : Pairs) (an : List Answer) → Effects c s r (call c s r an .answer) (call c s r an .state) (call c s r an .register)
 call-effect (SetErr f) s r an = guards (SetErr f) s r Flags no-tests (λ g. g) (setting f) (λ no. unmoved (SetErr f) s r)
-call-effect Start s r an = guards Start s r Done start-tests Err opening (λ no. opens (not-false _ (no .1 .1 .0)) refl)
-call-effect Push s r an = guards Push s r Done push-tests Err opening (λ no. opens (not-false _ (no .1 .0)) refl)
+call-effect Start s r an = guards Start s r Done start-tests Err opening (λ no. opens (no .1 .0) (not-false _ (no .1 .1 .0)) refl)
+call-effect Push s r an = guards Push s r Done push-tests Err opening (λ no. opens (no .0) (not-false _ (no .1 .0)) refl)
 call-effect (Allocate k z) s r an = guards (Allocate k z) s r Place (room-tests k) Err (allocating k z) (λ no. same (omega arith))
 call-effect (Pad k) s r an = guards (Pad k) s r Place (room-tests k) Err (allocating k false) (λ no. same (omega arith))
 call-effect (Embed bs) s r an = guards (Embed bs) s r Place (room-tests (length bs)) Err (writing bs) (λ no. same (omega arith))

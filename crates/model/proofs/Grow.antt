@@ -101,13 +101,13 @@ module _ (s : State) where
 module _ {c : Call} {s : State} {r : Pairs} {m : List ℕ} {h : ℕ} {a : Answer} where
   effect-grown : {os ps : List Object} {p : Pool} {r′ : Pairs} → (Turns (role c) → ⊥) → Effect c s r m h a os ps p r′ → Grows s os
   effect-grown plain (same l) = kept-open s
-  effect-grown plain (opens f e) = grown-open (s .head) (s .tail) (opened-in s) (s .opened) refl refl
+  effect-grown plain (opens _ f e) = grown-open (s .head) (s .tail) (opened-in s) (s .opened) refl refl
   effect-grown plain (links o os l n is e b) = changing s o (with-link o l) os is (record { head = refl; tail = refl; links = simp length-append (omega arith) })
   effect-grown plain (orders o os l n is e) = changing s o (with-virtual o l) os is (record { head = refl; tail = refl; links = omega arith })
   effect-grown plain (lends ps n e t) = kept-open s
   effect-grown plain (closes o os is e) = closing s o os is
   effect-grown plain (packs o os is e) = closing s o os is
-  effect-grown plain (packs-entered o os is e) = closing s o os is
+  effect-grown plain (packs-entered o os is e _) = closing s o os is
   effect-grown plain (shares o os ps is e t) = closing s o os is
   effect-grown plain (drops o os is e) = closing s o os is
   effect-grown plain (drops-back o os is e w) = closing s o os is
@@ -118,13 +118,13 @@ module _ {c : Call} {s : State} {r : Pairs} {m : List ℕ} {h : ℕ} {a : Answer
 
   effect-floor : {os ps : List Object} {p : Pool} {r′ : Pairs} → (Turns (role c) → ⊥) → Effect c s r m h a os ps p r′ → Floor s os ps
   effect-floor plain (same l) f g q = g
-  effect-floor plain (opens u e) f g q = g
+  effect-floor plain (opens _ u e) f g q = g
   effect-floor plain (links o os l n is e b) f g q = g
   effect-floor plain (orders o os l n is e) f g q = g
   effect-floor plain (lends ps n e t) f g q = rw (relent-length (s .packed) ps t) g
   effect-floor plain (closes o os is e) f g q = g
   effect-floor plain (packs o os is e) f g q = omega arith
-  effect-floor plain (packs-entered o os is e) f g q = omega arith
+  effect-floor plain (packs-entered o os is e _) f g q = omega arith
   effect-floor plain (shares o os ps is e t) f g q = rw (relent-length (s .packed) ps t) g
   effect-floor plain (drops o os is e) f g q = g
   effect-floor plain (drops-back o os is e w) f g q = discard-floor (s .memory) (o .tail) (s .packed) (s .pool) r f g (q (let z = ap length is in omega arith) o os is)
@@ -135,13 +135,13 @@ module _ {c : Call} {s : State} {r : Pairs} {m : List ℕ} {h : ℕ} {a : Answer
 
   effect-moves : {os ps : List Object} {p : Pool} {r′ : Pairs} → (Turns (role c) → ⊥) → Effect c s r m h a os ps p r′ → Moves s h os
   effect-moves plain (same l) = inl l
-  effect-moves plain (opens u e) = inl (omega arith)
+  effect-moves plain (opens _ u e) = inl (omega arith)
   effect-moves plain (links o os l n is e b) = inl (omega arith)
   effect-moves plain (orders o os l n is e) = inl (omega arith)
   effect-moves plain (lends ps n e t) = inl (omega arith)
   effect-moves plain (closes o os is e) = inl (omega arith)
   effect-moves plain (packs o os is e) = inr (o, is, e)
-  effect-moves plain (packs-entered o os is e) = inr (o, is, e)
+  effect-moves plain (packs-entered o os is e _) = inr (o, is, e)
   effect-moves plain (shares o os ps is e t) = inr (o, is, e)
   effect-moves plain (drops o os is e) = inl (omega arith)
   effect-moves plain (drops-back o os is e w) = inr (o, is, e)

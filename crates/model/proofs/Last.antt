@@ -84,13 +84,13 @@ discard-pairs m t (_∷_ o os) p r h k = by-test (ltb (o .head) t) _ _ (λ (x : 
 
 pub effect-persist : {c : Call} {s : State} {r : Pairs} {m : List ℕ} {t : ℕ} {a : Answer} {os ps : List Object} {p : Pool} {r′ : Pairs} → Effect c s r m t a os ps p r′ → Persist (s .packed) ps
 effect-persist {s = s} (same _) = persist-same (s .packed)
-effect-persist {s = s} (opens e _) = persist-same (s .packed)
+effect-persist {s = s} (opens _ e _) = persist-same (s .packed)
 effect-persist {s = s} (links o os l n e _ a) = persist-same (s .packed)
 effect-persist {s = s} (orders o os l n e _) = persist-same (s .packed)
 effect-persist {s = s} (lends ps n _ t) = λ k p e l. relent-still (s .packed) ps t k p e
 effect-persist {s = s} (closes o os e _) = persist-same (s .packed)
 effect-persist {s = s} (packs o os e _) = persist-new (moved o s) (s .packed)
-effect-persist {s = s} (packs-entered o os e _) = persist-new (moved o s) (s .packed)
+effect-persist {s = s} (packs-entered o os e _ _) = persist-new (moved o s) (s .packed)
 effect-persist {s = s} (shares o os ps e _ t) = λ k p e l. relent-still (s .packed) ps t k p e
 effect-persist {s = s} (drops o os e _) = persist-same (s .packed)
 effect-persist {s = s} {r = r} (drops-back o os e _ w) = discard-persist (s .memory) (o .tail) (s .packed) (s .pool) r
@@ -102,13 +102,13 @@ effect-persist {s = s} (strikes h k e _) = persist-same (s .packed)
 pub effect-pairs : {c : Call} {s : State} {r : Pairs} {m : List ℕ} {t : ℕ} {a : Answer} {os ps : List Object} {p : Pool} {r′ : Pairs} → Effect c s r m t a os ps p r′ →
     (h k : ℕ) → c ≢ OwnerStrike h (index k) → k < length ps → r .has h k ≡ true → r′ .has h k ≡ true
 effect-pairs (same _) h k ne l e = e
-effect-pairs (opens u _) h k ne l e = e
+effect-pairs (opens _ u _) h k ne l e = e
 effect-pairs (links o os v n u _ w) h k ne l e = e
 effect-pairs (orders o os v n u _) h k ne l e = e
 effect-pairs (lends ps n _ t) h k ne l e = e
 effect-pairs (closes o os u _) h k ne l e = e
 effect-pairs (packs o os u _) h k ne l e = e
-effect-pairs {s = s} {r = r} {m = m} (packs-entered o os u _) h k ne l e = has-entered r (object-hash m (moved o s)) (length (s .packed)) h k e
+effect-pairs {s = s} {r = r} {m = m} (packs-entered o os u _ _) h k ne l e = has-entered r (object-hash m (moved o s)) (length (s .packed)) h k e
 effect-pairs (shares o os ps u _ t) h k ne l e = e
 effect-pairs (drops o os u _) h k ne l e = e
 effect-pairs {s = s} {r = r} (drops-back o os u _ w) h k ne l e = discard-pairs (s .memory) (o .tail) (s .packed) (s .pool) r h k l ∙ e

@@ -44,6 +44,19 @@ pub through-map : (P Q : List Call → Type 0) → ((ds : List Call) → P ds �
 through-map P Q f [] before t = f before t
 through-map P Q f (_∷_ c since) before t = (f (c ∷ (since ++ before)) (t .0), through-map P Q f since before (t .1))
 
+-- at every moment of the run
+abbrev pub All : (List Call → Type 0) → List Call → Type 0
+All P [] = P []
+All P (_∷_ c cs) = P (_∷_ c cs) × All P cs
+
+pub all-here : (P : List Call → Type 0) (cs : List Call) → All P cs → P cs
+all-here P [] f = f
+all-here P (_∷_ c cs) f = f .0
+
+pub all-drop : (P : List Call → Type 0) (ys cs : List Call) → All P (ys ++ cs) → All P cs
+all-drop P [] cs f = f
+all-drop P (_∷_ y ys) cs f = all-drop P ys cs (f .1)
+
 -- two ways to the same run
 pub split-two : (xs bs ys cs : List Call) → xs ++ bs ≡ ys ++ cs → length bs ≤ length cs → (mid : List Call) × (cs ≡ mid ++ bs) × (xs ≡ ys ++ mid)
 split-two xs bs [] cs e l = (xs, sym e, refl)

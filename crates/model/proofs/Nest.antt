@@ -30,7 +30,7 @@ use Rattle.model.proofs.Last.{Persist, persist-same, discard-persist}
 use Rattle.model.proofs.Slot.{cut-length}
 use Rattle.model.proofs.Effect.{Turns, call-effect}
 use Rattle.model.proofs.Grow.{Level, Step, discard-floor, effect-step}
-use Rattle.model.proofs.Moment.{Turning, turning, through-here, through-split, through-snoc, split-two, older-snoc, live-taken}
+use Rattle.model.proofs.Moment.{All, all-here, all-drop, Turning, turning, through-here, through-split, through-snoc, split-two, older-snoc, live-taken}
 use Rattle.model.proofs.Moment.Turning.{ahead, back, away}
 
 -- ---- within
@@ -41,6 +41,8 @@ pub record Within (s₀ s : State) : Type 0 where
   pub above : (k : ℕ) (p : Object) → k < count s₀ → numbered (s .packed) k ≡ Some p → s₀ .tail ≤ p .head
   pub tails : (j : ℕ) (o : Object) → depth s₀ ≤ j → numbered (s .opened) j ≡ Some o → (k : ℕ) (p : Object) → k < count s₀ → numbered (s .packed) k ≡ Some p → o .tail ≤ p .head
   pub links : (j : ℕ) (o₀ o : Object) → suc j ≡ depth s₀ → numbered (s₀ .opened) j ≡ Some o₀ → numbered (s .opened) j ≡ Some o → length (o₀ .real) ≤ length (o .real)
+  pub levels : (j : ℕ) (o₀ o : Object) → numbered (s₀ .opened) j ≡ Some o₀ → numbered (s .opened) j ≡ Some o → (o .head ≡ o₀ .head) × (o .tail ≡ o₀ .tail)
+  pub stand : (k : ℕ) (p₀ p : Object) → numbered (s₀ .packed) k ≡ Some p₀ → numbered (s .packed) k ≡ Some p → p .head ≡ p₀ .head
   pub forward : s₀ .head ≤ s .head
   pub heads : (j : ℕ) (o : Object) → depth s₀ ≤ j → numbered (s .opened) j ≡ Some o → s₀ .head ≤ o .head
 
@@ -50,6 +52,8 @@ within-same n s d = record {
   above = λ k p l e. let a = numbered-above n (s .packed) (d .stacked) k p e in omega (arith, d .under);
   tails = λ j o l e. absurd (let b = numbered-below (s .opened) j o e in omega arith);
   links = λ j o₀ o l e f. let g = some-inj o₀ o (sym e ∙ f) in subst (λ (x : Object). length (o₀ .real) ≤ length (x .real)) g (omega arith);
+  levels = λ j o₀ o e f. let g = some-inj o o₀ (sym f ∙ e) in (ap (λ (x : Object). x .head) g, ap (λ (x : Object). x .tail) g);
+  stand = λ k p₀ p e f. ap (λ (x : Object). x .head) (some-inj p p₀ (sym f ∙ e));
   forward = omega arith;
   heads = λ j o l e. absurd (let b = numbered-below (s .opened) j o e in omega arith);
 }
@@ -84,6 +88,13 @@ module _ (n : ℕ) (s₀ s s′ : State) (d : Sound-state n s) (w : Within s₀ 
           | inr v ↦ subst (λ (x : ℕ). x ≤ q .0 .head) (sym (v .2)) (let a = numbered-above n (s .packed) (d .stacked) k (q .0) (q .1) in omega (arith, d .under))
         ]);
     links = links;
+    levels = λ j o₀ o e f. elim (g j o f) [
+      | inl v ↦ let x = w .levels j o₀ (v .0) e (v .1) in (v .2 ∙ x .0, v .3 ∙ x .1)
+      | inr v ↦ absurd (let z : j ≡ depth s = v .0 in let y = numbered-below (s₀ .opened) j o₀ e in omega arith)
+    ];
+    stand = λ k p₀ p e f.
+        let q = came-from (s .packed) (s′ .packed) per k p (less k (numbered-below (s₀ .packed) k p₀ e)) f in
+        q .2 ∙ w .stand k p₀ (q .0) e (q .1);
     forward = forward;
     heads = λ j o l e. elim (g j o e) [
       | inl v ↦ subst (λ (x : ℕ). s₀ .head ≤ x) (sym (v .2)) (w .heads j (v .0) l (v .1))
@@ -176,34 +187,22 @@ module _ (b : Beginning) where
   abbrev pub Undug : List Call → Type 0
   Undug cs = (before since : List Call) → cs ≡ since ++ before → Through (λ ds. depth (at b before) ≤ depth (at b ds)) since before → Calm b (length before) since before → Within (at b before) (at b cs)
 
-  abbrev pub All-undug : List Call → Type 0
-  All-undug [] = Undug []
-  All-undug (_∷_ c cs) = Undug (c ∷ cs) × All-undug cs
-
-  pub undug-here : (cs : List Call) → All-undug cs → Undug cs
-  undug-here [] f = f
-  undug-here (_∷_ c cs) f = f .0
-
-  undug-drop : (ys cs : List Call) → All-undug (ys ++ cs) → All-undug cs
-  undug-drop [] cs f = f
-  undug-drop (_∷_ y ys) cs f = undug-drop ys cs (f .1)
-
   same : (cs before : List Call) → cs ≡ before → Within (at b before) (at b cs)
   same cs before e = subst (λ (x : List Call). Within (at b x) (at b cs)) e (within-same (span b) (at b cs) (run-sound b cs))
 
   -- from the moment of a live snapshot on
-  pub since-live : (cs : List Call) → All-undug cs → (j : ℕ) (live : Live b j cs) → Within (at b (live .before)) (at b cs)
+  pub since-live : (cs : List Call) → All Undug cs → (j : ℕ) (live : Live b j cs) → Within (at b (live .before)) (at b cs)
   since-live cs all j live =
       let bs = live .before in
       let ys = live .since ++ (Snap ∷ []) in
-      undug-here cs all bs ys (live .made ∙ sym (append-assoc (live .since) (Snap ∷ []) bs))
+      all-here Undug cs all bs ys (live .made ∙ sym (append-assoc (live .since) (Snap ∷ []) bs))
       (through-snoc (λ ds. depth (at b bs) ≤ depth (at b ds)) (live .since) Snap bs (live .not-closed) (omega arith))
       (calm-from b (length bs) ys bs (older-snoc (length bs) (live .since) Snap (subst (λ (x : ℕ). None-older x (live .since)) (sym (live .then)) (live .not-older)) tt))
 
-  module _ (cs : List Call) (all : All-undug cs) (before since : List Call) (is : cs ≡ since ++ before)
+  module _ (cs : List Call) (all : All Undug cs) (before since : List Call) (is : cs ≡ since ++ before)
       (t : Through (λ ds. depth (at b before) ≤ depth (at b ds)) since before) (o : Calm b (length before) since before) where
     w : Within (at b before) (at b cs)
-    w = undug-here cs all before since is t o
+    w = all-here Undug cs all before since is t o
 
     deep-now : depth (at b before) ≤ depth (at b cs)
     deep-now = subst (λ (x : List Call). depth (at b before) ≤ depth (at b x)) (sym is) (through-here (λ ds. depth (at b before) ≤ depth (at b ds)) since before t)
@@ -220,7 +219,7 @@ module _ (b : Beginning) where
         let P : List Call → Type 0 = λ ds. depth (at b before) ≤ depth (at b ds) in
         let tm : Through P (q .0) before = through-split P ys (q .0) before (subst (λ (x : List Call). Through P x before) (q .2) t) in
         let om : Calm b (length before) (q .0) before = calm-split b (length before) ys (q .0) before (subst (λ (x : List Call). Calm b (length before) x before) (q .2) o) in
-        let v : Within (at b before) (at b bs) = undug-here bs (undug-drop ys bs (subst All-undug made all)) before (q .0) (q .1) tm om in
+        let v : Within (at b before) (at b bs) = all-here Undug bs (all-drop Undug ys bs (subst (All Undug) made all)) before (q .0) (q .1) tm om in
         let d₀ : depth (at b before) ≤ depth (at b bs) = subst (λ (x : List Call). depth (at b before) ≤ depth (at b x)) (sym (q .1)) (through-here P (q .0) before tm) in
         subst (λ (x : Option Snapshot). Within (at b before) (revert-to x (at b cs) (run b cs .register) .state)) (sym (live-taken b j cs live))
         (within-revert (span b) (at b before) (at b bs) (at b cs) (run b cs .register) (run-sound b cs) w v (since-live cs all j live) d₀ (sym (live .again)))
@@ -234,7 +233,7 @@ module _ (b : Beginning) where
     next c live (inl l) deep = next-by c (turning c) live l deep
     next c live (inr e) deep = subst (λ (x : State). Within (at b before) x) (sym e) w
 
-  pub nest : (cs : List Call) → Live-run b cs → All-undug cs
+  pub nest : (cs : List Call) → Live-run b cs → All Undug cs
   nest [] live = λ before since e t o. first before since e
     where
       first : (before since : List Call) → [] ≡ since ++ before → Within (at b before) (at b [])
@@ -242,7 +241,7 @@ module _ (b : Beginning) where
       first before (_∷_ c since) e = absurd (let z = ap length e in omega arith)
   nest (_∷_ c cs) live = (step (nest cs (live .1)), nest cs (live .1))
     where
-      step : All-undug cs → Undug (c ∷ cs)
+      step : All Undug cs → Undug (c ∷ cs)
       step all before [] e t o = same (c ∷ cs) before e
       step all before (_∷_ x since) e t o =
           let y : c ≡ x = cc in let f : cs ≡ since ++ before = cc in

@@ -41,7 +41,7 @@ use Rattle.model.proofs.Twin.{Match, Found, Searched, twin-searched}
 -- ---- names over time
 
 -- an object still there has its bytes still
-still-bytes : (n : ℕ) (s s′ : State) → Sound-state n s → Kept s s′ → (k : ℕ) (p : Object) → numbered (s .packed) k ≡ Some p → (t : Still (s′ .packed) k p) → bytes-of s′ (t .object) ≡ bytes-of s p
+pub still-bytes : (n : ℕ) (s s′ : State) → Sound-state n s → Kept s s′ → (k : ℕ) (p : Object) → numbered (s .packed) k ≡ Some p → (t : Still (s′ .packed) k p) → bytes-of s′ (t .object) ≡ bytes-of s p
 still-bytes n s s′ d kept k p e t =
     ap (λ (x : ℕ). part (s′ .memory) x (t .object .tail)) (t .head) ∙ ap (λ (x : ℕ). part (s′ .memory) (p .head) x) (t .tail)
     ∙ part-kept (s .memory) (s′ .memory) (s .tail) (p .head) (p .tail)
@@ -68,7 +68,7 @@ module _ (b : Beginning) where
   names-later [] before k bs ls t w = w
   names-later (_∷_ c since) before k bs ls t w = names-step c (since ++ before) k bs ls (t .0 .0) (t .0 .1) (names-later since before k bs ls (t .1) w)
 
-  entered-stays : (c : Call) (cs : List Call) → at b (_∷_ c cs) .ended ≡ at b cs .ended → (k : ℕ) (t : Entered (run b cs) k) →
+  pub entered-stays : (c : Call) (cs : List Call) → at b (_∷_ c cs) .ended ≡ at b cs .ended → (k : ℕ) (t : Entered (run b cs) k) →
       c ≢ OwnerStrike (object-hash (at b cs .memory) (t .object)) (index k) → k < count (at b (_∷_ c cs)) → Entered (run b (_∷_ c cs)) k
   entered-stays c cs same k t ne l =
       let q = run-still c cs k (t .object) (t .named) l in
@@ -90,13 +90,13 @@ index-inj : (j k : ℕ) → Some (index j) ≡ Some (index k) → j ≡ k
 index-inj j k e = ap (λ (x : ObjIdx). x .0) (some-inj (index j) (index k) e)
 
 -- the bytes of the open object o
-abbrev own : State → Object → List ℕ
+abbrev pub own : State → Object → List ℕ
 own s o = part (s .memory) (o .head) (s .head)
 
 -- what a closing promises of the number that it answers
-record Closed (s : State) (r : Pairs) (o : Object) (share : Bool) (x : Out (Option ObjIdx)) (k : ℕ) : Type 0 where
-  names : Names (x .state) k (own s o) (o .real)
-  sought : share ≡ true →
+pub record Closed (s : State) (r : Pairs) (o : Object) (share : Bool) (x : Out (Option ObjIdx)) (k : ℕ) : Type 0 where
+  pub names : Names (x .state) k (own s o) (o .real)
+  pub sought : share ≡ true →
       (((p : Object) × (numbered (s .packed) k ≡ Some p) × (bytes-of s p ≡ own s o) × (p .real ≡ o .real) × (r .has (hash (own s o) (o .real)) k ≡ true))
       × ((j : ℕ) (q : Object) → j < k → numbered (s .packed) j ≡ Some q → bytes-of s q ≡ own s o → q .real ≡ o .real → r .has (hash (own s o) (o .real)) j ≡ true → ⊥))
       ⊎ (((j : ℕ) (q : Object) → numbered (s .packed) j ≡ Some q → bytes-of s q ≡ own s o → q .real ≡ o .real → r .has (hash (own s o) (o .real)) j ≡ true → ⊥)
@@ -165,7 +165,7 @@ close-closed n s sound r o os soft ts share k =
     (λ t. by-test (linkless o) _ _ (λ (x : Out (Option ObjIdx)). x .answer ≡ Some (index k) → Closed s r o share x k) (λ t a. absurd (none-some (index k) a)) (λ t a. absurd (none-some (index k) a)))
     (λ t a. pack-closed n s sound r o os soft over ts share k a))
 
-pop-closed : (n : ℕ) (s : State) → Sound-state n s → (r : Pairs) (o : Object) (os : List Object) → s .opened ≡ o ∷ os → (share : Bool) (k : ℕ) →
+pub pop-closed : (n : ℕ) (s : State) → Sound-state n s → (r : Pairs) (o : Object) (os : List Object) → s .opened ≡ o ∷ os → (share : Bool) (k : ℕ) →
     pop-pack share s r .answer ≡ Some (index k) → Closed s r o share (pop-pack share s r) k
 pop-closed n s sound r o os e share k =
     by-test (idle s) _ _ (λ (x : Out (Option ObjIdx)). x .answer ≡ Some (index k) → Closed s r o share x k) (λ t a. absurd (none-some (index k) a))
@@ -176,7 +176,7 @@ pop-closed n s sound r o os e share k =
 
 -- what answers a number was not ended, and without sharing it is the next one
 module _ (s : State) (r : Pairs) where
-  unended : (share : Bool) (k : ObjIdx) → pop-pack share s r .answer ≡ Some k → s .ended ≡ false
+  pub unended : (share : Bool) (k : ObjIdx) → pop-pack share s r .answer ≡ Some k → s .ended ≡ false
   unended share k = by-test (idle s) _ _ (λ (x : Out (Option ObjIdx)). x .answer ≡ Some k → s .ended ≡ false) (λ t a. absurd (none-some k a)) (λ t a. or-parts (s .ended) (hard (s .flags)) t .0)
 
   unshared : (k : ℕ) → pop-pack false s r .answer ≡ Some (index k) → k ≡ length (s .packed)
@@ -196,10 +196,10 @@ module _ (b : Beginning) (cs : List Call) where
   abbrev reg : Pairs
   reg = run b cs .register
 
-  said : (share : Bool) (k : ℕ) → answered b (_∷_ (PopPack share) cs) ≡ Number (Some (index k)) → pop-pack share now reg .answer ≡ Some (index k)
+  pub said : (share : Bool) (k : ℕ) → answered b (_∷_ (PopPack share) cs) ≡ Number (Some (index k)) → pop-pack share now reg .answer ≡ Some (index k)
   said share k a = number-inj (pop-pack share now reg .answer) (Some (index k)) a
 
-  twin-parts : (j : ℕ) (bs : List ℕ) (ls : List Link) → Twin (run b cs) j bs ls → (q : Object) × (numbered (now .packed) j ≡ Some q) × (bytes-of now q ≡ bs) × (q .real ≡ ls) × (reg .has (hash bs ls) j ≡ true)
+  pub twin-parts : (j : ℕ) (bs : List ℕ) (ls : List Link) → Twin (run b cs) j bs ls → (q : Object) × (numbered (now .packed) j ≡ Some q) × (bytes-of now q ≡ bs) × (q .real ≡ ls) × (reg .has (hash bs ls) j ≡ true)
   twin-parts j bs ls t =
       let p = t .names .object in let q = t .entered .object in
       let e : q ≡ p = some-inj q p (sym (t .entered .named) ∙ t .names .named) in (
@@ -221,7 +221,7 @@ module _ (b : Beginning) (cs : List Call) where
       let t = run-tallied b ok cs going in let c = t .capacity in let l = t .few in let u = room-left b cs deep in
       record { full = f; entered = omega arith; enough = omega arith }
 
-  shared-so : Counted (b .register) → (k : ℕ) (o : Object) (os : List Object) → now .opened ≡ o ∷ os → answered b (_∷_ (PopPack true) cs) ≡ Number (Some (index k)) → Shared b cs k (own now o) (o .real)
+  pub shared-so : Counted (b .register) → (k : ℕ) (o : Object) (os : List Object) → now .opened ≡ o ∷ os → answered b (_∷_ (PopPack true) cs) ≡ Number (Some (index k)) → Shared b cs k (own now o) (o .real)
   shared-so ok k o os e a =
       let c = pop-closed (span b) now (run-sound b cs) reg o os e true k (said true k a) in
       elim (c .sought refl) [

@@ -60,7 +60,7 @@ cut-length a b (_∷_ o os) = refl
 
 effect-housed : {c : Call} {s : State} {r : Pairs} {m : List ℕ} {t : ℕ} {a : Answer} {os ps : List Object} {p : Pool} {r′ : Pairs} → Effect c s r m t a os ps p r′ → (n : ℕ) → Housed n (s .opened) (s .packed) (s .pool) → Housed n os ps p
 effect-housed (same _) n d = d
-effect-housed {s = s} (opens f _) n d =
+effect-housed {s = s} (opens _ f _) n d =
     let p = s .pool in
     let t = taken (length (s .opened) + length (s .packed)) (p .released) (p .used) (p .slots) (p .linked) (p .cells) (d .apart) (let x = d .limit in let y = d .within in omega arith) f in
     record { apart = let x = t .0 in omega arith; within = let x = t .1 in let y = d .limit in omega arith; limit = t .2 ∙ d .limit }
@@ -69,7 +69,7 @@ effect-housed (orders o os l k e _) n d = let z = ap length e in record { apart 
 effect-housed {s = s} (lends ps k _ t) n d = let z = relent-length (s .packed) ps t in record { apart = let x = d .apart in omega arith; within = d .within; limit = d .limit }
 effect-housed (closes o os e _) n d = let z = ap length e in record { apart = let x = d .apart in omega arith; within = d .within; limit = d .limit }
 effect-housed (packs o os e _) n d = let z = ap length e in record { apart = let x = d .apart in omega arith; within = d .within; limit = d .limit }
-effect-housed (packs-entered o os e _) n d = let z = ap length e in record { apart = let x = d .apart in omega arith; within = d .within; limit = d .limit }
+effect-housed (packs-entered o os e _ _) n d = let z = ap length e in record { apart = let x = d .apart in omega arith; within = d .within; limit = d .limit }
 effect-housed {s = s} (shares o os ps e _ t) n d = let z = ap length e in let y = relent-length (s .packed) ps t in record { apart = let x = d .apart in omega arith; within = d .within; limit = d .limit }
 effect-housed (drops o os e _) n d = let z = ap length e in record { apart = let x = d .apart in omega arith; within = d .within; limit = d .limit }
 effect-housed {s = s} {r = r} (drops-back o os e _ w) n d =

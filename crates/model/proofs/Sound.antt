@@ -58,7 +58,7 @@ Kept s₀ s = drop (s₀ .tail) (s .memory) ≡ drop (s₀ .tail) (s₀ .memory)
 abbrev pub Good : ℕ → State → State → Type 0
 Good n s₀ s = Sound-state n s × Kept s₀ s × (s .ended ≡ s₀ .ended)
 
-lowest-le : (n : ℕ) (ps : List Object) → Stacked n ps → lowest n ps ≤ n
+pub lowest-le : (n : ℕ) (ps : List Object) → Stacked n ps → lowest n ps ≤ n
 lowest-le n [] st = omega arith
 lowest-le n (_∷_ p ps) st = let ih : lowest n ps ≤ n = lowest-le n ps (st .2) in omega (arith, st .0, st .1)
 
@@ -249,7 +249,7 @@ pop-pack-good n s sound share r =
 
 -- ---- rewinding
 
-discard-stacked : (m : List ℕ) (n t : ℕ) (ps : List Object) (p : Pool) (r : Pairs) → t ≤ n → Stacked n ps →
+pub discard-stacked : (m : List ℕ) (n t : ℕ) (ps : List Object) (p : Pool) (r : Pairs) → t ≤ n → Stacked n ps →
     Stacked n (discard m t ps p r .left) × (t ≤ lowest n (discard m t ps p r .left))
 discard-stacked m n t [] p r l st = (tt, l)
 discard-stacked m n t (_∷_ o os) p r l st =
@@ -257,7 +257,7 @@ discard-stacked m n t (_∷_ o os) p r l st =
     (λ e. discard-stacked m n t os _ _ l (st .2))
     (λ e. (st, ltb-false (o .head) t e))
 
-edge-lowest : (n : ℕ) (m : List ℕ) (ps : List Object) → length m ≡ n → (elim ps [ [] ↦ length m | _∷_ p qs ↦ p .head ]) ≡ lowest n ps
+pub edge-lowest : (n : ℕ) (m : List ℕ) (ps : List Object) → length m ≡ n → (elim ps [ [] ↦ length m | _∷_ p qs ↦ p .head ]) ≡ lowest n ps
 edge-lowest n m [] e = e
 edge-lowest n m (_∷_ p ps) e = refl
 

@@ -163,13 +163,13 @@ module _ (n : ℕ) (c : Call) (s : State) (sound : Sound-state n s) (r : Pairs) 
 
   effect-gain : {t : ℕ} {a : Answer} {os ps : List Object} {p : Pool} {r′ : Pairs} → Effect c s r m t a os ps p r′ → Gain c s r m ps r′
   effect-gain (same _) = same-gain
-  effect-gain (opens e _) = same-gain
+  effect-gain (opens _ e _) = same-gain
   effect-gain (links o os l k e _ a) = same-gain
   effect-gain (orders o os l k e _) = same-gain
   effect-gain (lends ps k _ t) = relent-gain ps t
   effect-gain (closes o os e _) = same-gain
   effect-gain (packs o os e _) = record { gained = let a = kept-tally in omega arith; counted = ok; capacity = refl }
-  effect-gain (packs-entered o os e _) = record
+  effect-gain (packs-entered o os e _ _) = record
       { gained = let a = kept-tally in let b = own-gain m r (moved o s) (s .packed) in omega arith; counted = counted-entered r (object-hash m (moved o s)) (length (s .packed)) ok; capacity = refl }
   effect-gain (shares o os ps e _ t) = relent-gain ps t
   effect-gain (drops o os e _) = same-gain

@@ -72,13 +72,13 @@ module _ {c : Call} {a : Answer} (s : State) where
 pub effect-opens : {c : Call} {s : State} {r : Pairs} {m : List ℕ} {h : ℕ} {a : Answer} {os ps : List Object} {p : Pool} {r′ : Pairs} → Effect c s r m h a os ps p r′ →
     (j : ℕ) (o : Object) → numbered os j ≡ Some o → Kind c a s os j o
 effect-opens {s = s} (same l) = stays s (s .opened) refl
-effect-opens {s = s} (opens u e) = opening-kind s
+effect-opens {s = s} (opens _ u e) = opening-kind s
 effect-opens {s = s} (links o os l n is e b) = first-kind s o (with-link o l) os is (linked o os l is refl refl refl b)
 effect-opens {s = s} (orders o os l n is e) = first-kind s o (with-virtual o l) os is (was o (here s o os is) (λ i l h. h))
 effect-opens {s = s} (lends ps n e t) = stays s (s .opened) refl
 effect-opens {s = s} (closes o os is e) = closing-kind s o os is
 effect-opens {s = s} (packs o os is e) = closing-kind s o os is
-effect-opens {s = s} (packs-entered o os is e) = closing-kind s o os is
+effect-opens {s = s} (packs-entered o os is e _) = closing-kind s o os is
 effect-opens {s = s} (shares o os ps is e t) = closing-kind s o os is
 effect-opens {s = s} (drops o os is e) = closing-kind s o os is
 effect-opens {s = s} (drops-back o os is e w) = closing-kind s o os is
@@ -112,13 +112,13 @@ module _ (s : State) where
 pub effect-packs : {c : Call} {s : State} {r : Pairs} {m : List ℕ} {h : ℕ} {a : Answer} {os ps : List Object} {p : Pool} {r′ : Pairs} → Effect c s r m h a os ps p r′ →
     (k : ℕ) (q : Object) → numbered ps k ≡ Some q → From s os ps k q
 effect-packs {s = s} (same l) = stay s (s .opened)
-effect-packs {s = s} (opens u e) = stay s (opened-in s ∷ s .opened)
+effect-packs {s = s} (opens _ u e) = stay s (opened-in s ∷ s .opened)
 effect-packs {s = s} (links o os l n is e b) = stay s (with-link o l ∷ os)
 effect-packs {s = s} (orders o os l n is e) = stay s (with-virtual o l ∷ os)
 effect-packs {s = s} (lends ps n e t) = relent-from s (s .opened) ps t
 effect-packs {s = s} (closes o os is e) = stay s os
 effect-packs {s = s} (packs o os is e) = new-from s o os is
-effect-packs {s = s} (packs-entered o os is e) = new-from s o os is
+effect-packs {s = s} (packs-entered o os is e _) = new-from s o os is
 effect-packs {s = s} (shares o os ps is e t) = relent-from s os ps t
 effect-packs {s = s} (drops o os is e) = stay s os
 effect-packs {s = s} {r = r} (drops-back o os is e w) = stood-from s os _ (discard-persist (s .memory) (o .tail) (s .packed) (s .pool) r) (discard-fewer (s .memory) (o .tail) (s .packed) (s .pool) r)

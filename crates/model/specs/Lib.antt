@@ -17,3 +17,6 @@ pub mod Stacking
 pub mod Sharing
 pub mod Offsets
 pub mod Law
+pub mod Standing
+pub mod Owning
+pub mod Edges
