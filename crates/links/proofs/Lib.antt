@@ -1,0 +1,12 @@
+pub mod Walk
+pub mod Place
+pub mod Wiring
+pub mod Join
+pub mod Reading
+pub mod Append
+pub mod Cut
+pub mod AppendAll
+pub mod Fresh
+pub mod Step
+pub mod Compare
+pub mod Feed

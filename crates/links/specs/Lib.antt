@@ -1,0 +1,3 @@
+pub mod Walk
+pub mod Meaning
+pub mod Rest
