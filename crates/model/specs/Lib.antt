@@ -1,0 +1,13 @@
+pub mod Limit
+pub mod State
+pub mod Declining
+pub mod Opening
+pub mod Writing
+pub mod Linking
+pub mod Closing
+pub mod Rewinding
+pub mod Ending
+pub mod Reading
+pub mod New
+pub mod Run
+pub mod Sheets
