@@ -19,7 +19,7 @@ use Rattle.objects.specs.Contents.{Parts, meaning, in-slot}
 use Rattle.objects.specs.Change.{takes, releases}
 use Rattle.objects.specs.Loose.{Loose}
 use Rattle.objects.proofs.Count.{there, occ-top}
-use Rattle.objects.proofs.Sound.{Sound, with-used, used-loose, heavier}
+use Rattle.objects.proofs.Sound.{Sound, with-used, used-sound, used-loose, heavier}
 use Rattle.objects.proofs.Frame.{Touch, touch, touch-twice, frame-links, with-links, touched, sum-set}
 use Rattle.objects.proofs.Stack.{same-contents, with-released}
 
@@ -104,6 +104,9 @@ same-released p ys e = ap (λ (v : List PoolIdx). meaning (with-released p v)) e
 -- the lowest never used
 pub new-loose : (p : Parts) (ys : List PoolIdx) → Sound p → ys ≡ p .released → Loose (with-released (with-used p (p .used + 1)) ys) (record { 0 = p .used })
 new-loose p ys w e = subst (λ (v : List PoolIdx). Loose (with-released (with-used p (p .used + 1)) v) (record { 0 = p .used })) (sym e) (used-loose p w)
+
+pub new-sound : (p : Parts) (ys : List PoolIdx) → Sound p → p .used < p .slots → ys ≡ p .released → Sound (with-released (with-used p (p .used + 1)) ys)
+new-sound p ys w h e = subst (λ (v : List PoolIdx). Sound (with-released (with-used p (p .used + 1)) v)) (sym e) (used-sound p w h)
 
 module _ (p : Parts) (ys : List PoolIdx) (e : p .released ≡ []) where
   pub new-free : (b : Bool) → ltb (p .used) (p .slots) ≡ b → b ≡ slot-free (meaning p .pool)

@@ -8,13 +8,15 @@ use Rattle.std.specs.declared.option.Option.{Option}
 use Rattle.std.specs.declared.option.Option.the-variants.{Some, None}
 use Rattle.link.specs.declared.Link.{Link}
 use Rattle.link.specs.declared.ObjIdx.{ObjIdx}
-use Rattle.model.specs.State.{Object, Pool, slot-next, slot-taken, slot-back, links-of, with-linked}
+use Rattle.model.specs.State.{Object, Pool, numbered, slot-next, slot-taken, slot-back, links-of, with-linked}
 use Rattle.model.specs.Linking.{extend, extend-virtual, virtual-to, lend, cell-taken}
 use Rattle.model.specs.Closing.{same-links}
 use Rattle.model.specs.Rewinding.{cut-first, cut-cells}
 use Rattle.model.specs.Reading.{virtual-of}
 use Rattle.objects.specs.declared.extents.Extent.{Extent}
 use Rattle.objects.specs.declared.extents.Outline.{Outline}
+use Rattle.objects.specs.declared.extents.Which.{Which}
+use Rattle.objects.specs.declared.extents.Which.the-variants.{Innermost, LastPacked, Numbered}
 use Rattle.objects.specs.Contents.{Contents, built}
 
 -- ---- the first of a list of objects: the innermost open one, or the one packed last
@@ -26,6 +28,11 @@ first (_∷_ o os) = Some o
 abbrev pub behind : List Object → List Object
 behind [] = []
 behind (_∷_ o os) = os
+
+abbrev pub chosen : Which → Contents → Option Object
+chosen Innermost c = first (c .opened)
+chosen LastPacked c = first (c .packed)
+chosen (Numbered n) c = numbered (c .packed) (n .0)
 
 -- one object more, open or packed
 abbrev pub with-open : Object → Contents → Contents
@@ -120,8 +127,8 @@ shares n c =
 abbrev pub outlined : Object → Outline
 outlined o = record { slot = o .slot; extent = record { head = o .head; tail = o .tail }; «num_real_links» = length (o .real); «num_virtual_links» = length (o .virtual) }
 
--- whether there are two objects, and the second has the real links of the first
+-- whether there are two objects, and they have the same real links
 abbrev pub alike : Option Object → Option Object → Bool
 alike None p = false
 alike (Some o) None = false
-alike (Some o) (Some p) = same-links (p .real) (o .real)
+alike (Some o) (Some p) = same-links (o .real) (p .real)

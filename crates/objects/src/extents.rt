@@ -1,5 +1,14 @@
-// Where an object lies, and what is read of one at once.
+// Which object is meant, where it lies, and what is read of one at once.
+use link::ObjIdx;
 use link::PoolIdx;
+
+// An object, by where it stands: the innermost open one, the one packed last, or the packed one of a number.
+#[derive(Clone, Copy)]
+pub enum Which {
+    Innermost,
+    LastPacked,
+    Numbered(ObjIdx),
+}
 
 // A packed object's bytes are those from head up to tail; of an open object these are head and tail of the
 // cursor when it was opened.

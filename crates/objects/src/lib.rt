@@ -5,4 +5,5 @@ pub mod state;
 
 pub use extents::Extent;
 pub use extents::Outline;
+pub use extents::Which;
 pub use state::Objects;

@@ -1,19 +1,24 @@
-// The two lists of links that the object in a slot has.
+// The two lists of links that the object in a slot has, and what is read of a list.
 ghost use mathlib.Core.Path.{_≡_};
 ghost use Prim.Native.Nat.{_+_, _*_, _<_};
 ghost use lib.ListN.{length};
 ghost use Rattle.links.specs.Meaning.{lists, list-at};
 ghost use Rattle.model.specs.Closing.{same-links};
 ghost use Rattle.model.specs.Linking.{last-number};
-ghost use Rattle.model.specs.Reading.{nth};
-ghost use Rattle.objects.specs.Contents.{object-at};
+ghost use Rattle.model.specs.Reading.{nth, real-of, virtual-of};
+ghost use Rattle.objects.specs.Contents.{contents, object-at};
+ghost use Rattle.objects.specs.Change.{chosen};
 use super::Objects;
+use crate::extents::Which;
 use link::Link;
 use link::ObjIdx;
 use link::PoolIdx;
 
+// The number of no list.
+const NO_LIST: usize = usize::MAX;
+
 impl Objects {
-    // The list of its real links.
+    // The list of the real links in a slot.
     pub(crate) fn real_list(&self, slot: PoolIdx) -> usize
         requires within { ⌜ slot .0 < now self .used ⌝ }
         ensures answer { λ r. ⌜ r ≡ 2 * slot .0 ⌝ }
@@ -23,7 +28,7 @@ impl Objects {
         2 * slot.0
     }
 
-    // The list of its virtual links.
+    // The list of the virtual links in a slot.
     pub(crate) fn virtual_list(&self, slot: PoolIdx) -> usize
         requires within { ⌜ slot .0 < now self .used ⌝ }
         ensures answer { λ r. ⌜ r ≡ 2 * slot .0 + 1 ⌝ }
@@ -31,6 +36,26 @@ impl Objects {
         ensures inside { λ r. ⌜ r < length (lists (now (self .entry) .links)) ⌝ }
     {
         2 * slot.0 + 1
+    }
+
+    // The list of an object's real links, or the number of no list.
+    pub(crate) fn real_list_of(&self, which: Which) -> usize
+        ensures answer { λ r. ⌜ list-at (now (self .entry) .links) r ≡ real-of (chosen which (contents (now (self .entry)))) ⌝ }
+    {
+        match self.slot_of(which) {
+            Some(slot) => self.real_list(slot),
+            None => NO_LIST,
+        }
+    }
+
+    // The list of an object's virtual links, or the number of no list.
+    pub(crate) fn virtual_list_of(&self, which: Which) -> usize
+        ensures answer { λ r. ⌜ list-at (now (self .entry) .links) r ≡ virtual-of (chosen which (contents (now (self .entry)))) ⌝ }
+    {
+        match self.slot_of(which) {
+            Some(slot) => self.virtual_list(slot),
+            None => NO_LIST,
+        }
     }
 
     // How many links a list has.

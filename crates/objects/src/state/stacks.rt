@@ -8,10 +8,11 @@ ghost use Rattle.std.specs.Options.{Cases, isSome, mapped};
 ghost use Rattle.model.specs.State.{numbered, slot-free, slot-next};
 ghost use Rattle.objects.specs.Slots.{held};
 ghost use Rattle.objects.specs.Contents.{parts, contents, object-at, built};
-ghost use Rattle.objects.specs.Change.{first, closes, unstacks, takes, with-open, with-pack, laid, releases};
+ghost use Rattle.objects.specs.Change.{first, chosen, closes, unstacks, takes, with-open, with-pack, laid, releases};
 ghost use Rattle.objects.specs.Loose.{Loose, Place, Top};
 use super::Objects;
 use crate::extents::Extent;
+use crate::extents::Which;
 use link::ObjIdx;
 use link::PoolIdx;
 
@@ -54,6 +55,18 @@ impl Objects {
             return None;
         }
         Some(self.packed[number.0])
+    }
+
+    // The slot of an object.
+    pub(crate) fn slot_of(&self, which: Which) -> Option<PoolIdx>
+        ensures answer { λ r. ⌜ mapped (object-at (now (self .entry))) r ≡ chosen which (contents (now (self .entry))) ⌝ }
+        ensures within { λ r. ⌜ Cases r (Unit {0}) (λ x. x .0 < now (self .entry) .used) ⌝ }
+    {
+        match which {
+            Which::Innermost => self.innermost_slot(),
+            Which::LastPacked => self.last_slot(),
+            Which::Numbered(number) => self.numbered_slot(number),
+        }
     }
 
     // Takes the innermost open object off its stack.

@@ -7,7 +7,7 @@ use Rattle.std.proofs.shelf.Tests.{lt-ltb, le-ltb}
 use Rattle.objects.specs.Contents.{parts, contents}
 use Rattle.objects.proofs.Sound.{sound, used-blank}
 use Rattle.objects.proofs.Stack.{pop-is, popped-released, loose-released, released-blank}
-use Rattle.objects.proofs.Release.{old-free, old-next, old-taken, same-released, new-loose, new-free, new-next, new-taken}
+use Rattle.objects.proofs.Release.{old-free, old-next, old-taken, same-released, new-sound, new-loose, new-free, new-next, new-taken}
 use Rattle.objects.proofs.state.Objects.take_slot.Needs as need
 
 pub ghost-self : need.ghost-self
@@ -16,6 +16,20 @@ ghost-self c =
     let i = c .in-Some .ensures tt in
     let w = popped-released (parts s) (sound s) (vec-items (c .pop .last .self)) (Some (c .in-Some .slot)) (i .items) in
     (w .paired, ((s .reserved .0, s .reserved .1, omega (arith, s .reserved .2, i .capacity)), (w .counted, (w .roomy, (w .apart, (w .blank, tt))))))
+
+pub ghost-self-then-self-len : need.ghost-self-then-self-len
+ghost-self-then-self-len c =
+    let s = c .args .self .now in
+    let n = pop-is _ _ _ _ None (s .released .ok .0) (c .pop .last .self .ok .0) (c .in-rest .ensures tt .items) (c .in-rest .ensures tt .cases) in
+    let w = popped-released (parts s) (sound s) (vec-items (c .pop .last .self)) None n in
+    (w .paired, ((s .reserved .0, s .reserved .1, omega (arith, s .reserved .2, c .in-rest .ensures tt .capacity)), (w .counted, (w .roomy, (w .apart, (w .blank, tt))))))
+
+pub ghost-self-2 : need.ghost-self-2
+ghost-self-2 c =
+    let s = c .args .self .now in
+    let n = pop-is _ _ _ _ None (s .released .ok .0) (c .pop .last .self .ok .0) (c .in-rest .ensures tt .items) (c .in-rest .ensures tt .cases) in
+    let w = new-sound (parts s) (vec-items (c .pop .last .self)) (sound s) (omega (arith, c .len .ensures)) (n .1 ∙ sym (n .0)) in
+    (w .paired, ((s .reserved .0, s .reserved .1, omega (arith, s .reserved .2, c .in-rest .ensures tt .capacity)), (w .counted, (w .roomy, (w .apart, (w .blank, tt))))))
 
 pub returns-in-Some : need.returns-in-Some
 unfolding contents
