@@ -121,9 +121,9 @@ sheets =
     ∷ sheet 8 ((Push, fine) ∷ (linked 0 2, fine) ∷ (PopPack true, no-number) ∷ []) 1 0 []
     -- discarding an object that was not shared leaves an equal one entered
     ∷ sheet 8
-        (two-bytes ++ ((PopPack true, number 0) ∷ (Snap, Taken (record { head = 0; tail = 6; current = None; «num_real_links» = 0; «num_virtual_links» = 0; errors = flag.none })) ∷ two-bytes)
-        ++ ((PopPack false, number 1) ∷ (Revert 3, Nothing) ∷ two-bytes) ++ ((PopPack true, number 0) ∷ []))
-        0 2 (1 ∷ 2 ∷ [])
+    (two-bytes ++ ((PopPack true, number 0) ∷ (Snap, Taken (record { head = 0; tail = 6; current = None; «num_real_links» = 0; «num_virtual_links» = 0; errors = flag.none })) ∷ two-bytes)
+    ++ ((PopPack false, number 1) ∷ (Revert 3, Nothing) ∷ two-bytes) ++ ((PopPack true, number 0) ∷ []))
+    0 2 (1 ∷ 2 ∷ [])
     -- nothing packed
     ∷ sheet 8 ((Start, fine) ∷ (Embed (1 ∷ 2 ∷ []), placed 0) ∷ (End, Nothing) ∷ []) 0 2 (1 ∷ 2 ∷ [])
     -- a soft and a hard set
