@@ -1,20 +1,17 @@
 -- The least number that is entered and whose object is like the one that is closed. Used by the search for it.
 use mathlib.Core.Path.{_≡_, refl, sym, ap, _∙_}
-use mathlib.Core.List.{List, [], _∷_, _++_}
+use mathlib.Core.List.{List, [], _∷_}
 use mathlib.Core.Bool.{Bool, true, false, cond, _&&_}
-use mathlib.Core.Logic.{_≢_, _⊎_, inl, inr}
-use Prim.Native.Nat.{ℕ, suc, _<_, _≤_}
+use mathlib.Core.Logic.{_≢_, inl, inr}
+use Prim.Native.Nat.{ℕ, suc, _<_}
 use native.Mathlib.Omega.{arith}
-use lib.Dec.{eqb, leb}
 use lib.ListN.{length}
-use Rattle.std.specs.Options.{mapped}
 use Rattle.std.specs.declared.option.Option.{Option}
 use Rattle.std.specs.declared.option.Option.the-variants.{Some, None}
 use Rattle.std.proofs.shelf.Tests.{cases-eq, eq-eqb, ne-eqb, and-left}
 use Rattle.link.specs.declared.Link.{Link}
-use Rattle.link.specs.declared.ObjIdx.{ObjIdx}
 use Rattle.register.specs.Pairs.{Pairs}
-use Rattle.model.specs.State.{Object, index, numbered}
+use Rattle.model.specs.State.{Object, numbered}
 use Rattle.model.specs.Closing.{matches, twin, or-else}
 use Rattle.serializer_close.specs.Twins.{like}
 

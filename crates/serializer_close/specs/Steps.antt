@@ -1,5 +1,4 @@
 -- The steps of closing, while the object is still open.
-use mathlib.Core.List.{List}
 use Prim.Native.Nat.{ℕ, _-_}
 use lib.ListN.{length}
 use Rattle.std.specs.declared.option.Option.{Option}

@@ -1,4 +1,4 @@
-use mathlib.Core.Path.{_≡_, ap, _∙_}
+use mathlib.Core.Path.{ap, _∙_}
 use Rattle.std.specs.Of.Vec.{vec-items, vec-len}
 use Rattle.objects.specs.Contents.{Contents, contents}
 use Rattle.serializer_state.specs.View.{view, state}
