@@ -14,3 +14,7 @@ within n (_∷_ o os) = leb (o .tail) n && within n os
 abbrev pub lying : ℕ → List Object → Bool
 lying n [] = true
 lying n (_∷_ o os) = leb (o .head) (o .tail) && (leb (o .tail) n && lying n os)
+
+-- whether head and tail are in order and within n bytes
+abbrev pub placeable : ℕ → ℕ → ℕ → Bool
+placeable head tail n = leb head tail && leb tail n

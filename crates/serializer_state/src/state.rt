@@ -8,6 +8,7 @@ use cursor::cursor::Cursor;
 use cursor::flags::SerializeErrorFlags;
 use objects::Objects;
 
+pub mod changes;
 pub mod declines;
 
 #[derive(Drop)]

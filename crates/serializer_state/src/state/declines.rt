@@ -1,6 +1,6 @@
 // Flags joined, and the tests that calls begin with.
 ghost use mathlib.Core.Path.{_≡_};
-ghost use Rattle.cursor.specs.Flags.{joined, other};
+ghost use Rattle.cursor.specs.Flags.{joined, none, other};
 ghost use Rattle.model.specs.Declining.{set-err as joins, idle as is-idle};
 ghost use Rattle.model.specs.State.{flag};
 ghost use Rattle.serializer_state.specs.View.{view};
@@ -22,6 +22,14 @@ impl SerializerState {
     {
         let mut flags = self.flags;
         flags.set_err(SerializeErrorFlags::SERIALIZE_ERROR_OTHER)
+    }
+
+    // What a call that a flag declines answers in place of changing: the flags, with none joined to them.
+    pub fn standing(&self) -> SerializeErrorFlags
+        ensures answer { λ r. ⌜ r ≡ joined (view (now (self .entry)) .flags) none ⌝ }
+        ensures same { λ _. ⌜ view (now (self .entry)) ≡ flag (view (now (self .entry))) none ⌝ }
+    {
+        self.flags
     }
 
     // Whether nothing is closed, discarded or reverted: it is ended, or a hard flag stands.
