@@ -1,8 +1,6 @@
 use mathlib.Core.Path.{_≡_, sym, ap, _∙_}
-use lib.ListN.{length}
 use Rattle.model.specs.Closing.{Out}
-use Rattle.model.specs.Ending.{resolve}
-use Rattle.model.specs.State.{State, with-ended}
+use Rattle.model.specs.State.{State}
 use Rattle.register.specs.Pairs.{Pairs}
 use Rattle.serializer_state.specs.View.{view}
 use Rattle.serializer_end.proofs.Cases.{when-ended, when-closed, when-flagged, when-none-packed, when-packed}
@@ -42,6 +40,6 @@ returns g c =
     when-packed (view (c .args .s .now)) (g .R·Register .holds (c .args .register .now)) (c .if-s .left) (sym (c .nothing-open .ensures .answer) ∙ c .if-nothing-open .left) (sym (c .in-error .ensures .answer) ∙ c .if-in-error .left)
     (λ z. c .if-packed-count-eq0 .left (c .packed-count .ensures .answer ∙ z)) in
     record {
-      state = c .finish .ensures .state ∙ ap (λ (s : State). resolve (with-ended s)) (c .pop-pack .ensures .state) ∙ sym (ap left-state e);
-      register = c .pop-pack .ensures .register ∙ sym (ap left-register e);
+      state = c .end-packed .ensures .state ∙ sym (ap left-state e);
+      register = c .end-packed .ensures .register ∙ sym (ap left-register e);
     }
