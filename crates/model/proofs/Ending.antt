@@ -2,12 +2,11 @@
 use mathlib.Core.Path.{_≡_, refl, sym, ap, subst, _∙_}
 use mathlib.Core.List.{List, [], _∷_, _++_}
 use mathlib.Core.Bool.{Bool, true, false, not, cond, _||_}
-use mathlib.Core.Logic.{_⊎_, inl, inr}
 use Prim.Native.Nat.{ℕ, zero, suc, _+_, _-_, _*_, _^_, _≤_, _<_}
 use native.Mathlib.Nat.{pow-succ'}
 use native.Mathlib.Omega.{arith}
 use lib.Dec.{eqb, ltb}
-use lib.IntN.{ℤ, pos, _-ℤ_}
+use lib.IntN.{pos, _-ℤ_}
 use lib.ListN.{length, take, drop}
 use lib.Pow.{pow-add, pow-pos}
 use Rattle.cursor.specs.declared.flags.SerializeErrorFlags.{SerializeErrorFlags}
@@ -21,17 +20,17 @@ use Rattle.std.specs.declared.option.Option.{Option}
 use Rattle.std.specs.declared.option.Option.the-variants.{Some, None}
 use Rattle.std.proofs.shelf.Signed.{ints}
 use Rattle.std.proofs.shelf.Tests.{ltb-false, eqb-true, eqb-false, lt-ltb, or-parts, both-ways}
-use Rattle.model.specs.State.{State, Object, with-opened, with-ended}
+use Rattle.model.specs.State.{State, Object, with-ended}
 use Rattle.model.specs.Declining.{flagged, nothing-open, idle}
-use Rattle.model.specs.Closing.{Out, linkless, moved, move, pack-new, close, close-first, pop-pack}
-use Rattle.model.specs.Ending.{Field, fields, largest, put-fields, resolved, resolve, end-over, end-serialize}
-use Rattle.model.specs.Moments.{count}
+use Rattle.model.specs.Closing.{Out, linkless, close, close-first, pop-pack}
+use Rattle.model.specs.Ending.{Field, fields, largest, resolved, resolve, end-over, end-serialize}
 use Rattle.model.specs.Offsets.{shown}
 use Rattle.model.proofs.Split.{by-test, if-false}
 use Rattle.model.proofs.Flag.{raised, zero-flags}
 use Rattle.model.proofs.Memory.{from-write, take-write, part-empty}
-use Rattle.model.proofs.Sound.{Sound, Sound-state, Tails, under-end, with-tails, size-is, new-good}
-use Rattle.model.proofs.Effect.{Same-objects, resolve-objects}
+use Rattle.model.proofs.Sound.{Sound-state, Tails, under-end, with-tails}
+use Rattle.model.proofs.Packing.{size-is, new-good}
+use Rattle.model.proofs.Change.{resolve-objects}
 use Rattle.model.proofs.Output.{Placed, puts-placed}
 
 abbrev own : State → Object → List ℕ

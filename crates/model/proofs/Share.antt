@@ -1,9 +1,9 @@
 -- The law's second part: what numbers name, and which equal objects share one.
 use mathlib.Core.Path.{_≡_, refl, sym, ap, subst, _∙_}
 use mathlib.Core.List.{List, [], _∷_, _++_}
-use mathlib.Core.Bool.{Bool, true, false, _||_}
+use mathlib.Core.Bool.{Bool, true, false}
 use mathlib.Core.Logic.{_⊎_, inl, inr, _≢_}
-use Prim.Native.Nat.{ℕ, suc, _+_, _-_, _≤_, _<_}
+use Prim.Native.Nat.{ℕ, _-_, _≤_, _<_}
 use native.Mathlib.Omega.{arith}
 use lib.Dec.{eqb, ltb}
 use lib.ListN.{length}
@@ -19,24 +19,26 @@ use Rattle.model.specs.State.{State, Object, index, numbered}
 use Rattle.model.specs.Declining.{idle}
 use Rattle.model.specs.Closing.{Out, out, hash, object-hash, twin, moved, move, pack-new, pack-twin, pack-shared, pack, linkless, close, close-first, pop-pack}
 use Rattle.model.specs.Reading.{bytes-of}
-use Rattle.model.specs.Run.{Call, Answer, Beginning, run}
+use Rattle.model.specs.Run.{Call, Beginning, run}
 use Rattle.model.specs.Run.Call.{PopPack, OwnerStrike}
 use Rattle.model.specs.Run.Answer.{Number}
 use Rattle.model.specs.Moments.{at, answered, span, depth, count, Through}
 use Rattle.model.specs.Stacking.{lowest}
-use Rattle.model.specs.Sharing.{Names, Entered, Twin, Owner-filled, Shared, entries, Law-b}
+use Rattle.model.specs.Sharing.{Names, Entered, Twin, Owner-filled, Shared, Law-b}
 use Rattle.model.specs.Offsets.{Still}
 use Rattle.model.proofs.Split.{by-test}
 use Rattle.model.proofs.Memory.{part-kept, part-inside}
 use Rattle.model.proofs.Number.{none-some, some-inj, numbered-at}
-use Rattle.model.proofs.Sound.{Sound, Sound-state, Kept, Tails, under-end, idle-hard, size-is, moved-good}
-use Rattle.model.proofs.Stack.{Called, run-sound, run-called, numbered-above}
+use Rattle.model.proofs.Sound.{Sound-state, Kept, Tails, under-end}
+use Rattle.model.proofs.Packing.{idle-hard, size-is, moved-good}
+use Rattle.model.proofs.Stack.{run-sound, run-called, numbered-above}
 use Rattle.model.proofs.Pair.{entered-has, full-so}
 use Rattle.model.proofs.Last.{effect-persist, effect-pairs, relent-still}
-use Rattle.model.proofs.Effect.{lend-relent, call-effect}
+use Rattle.model.proofs.Effect.{lend-relent}
+use Rattle.model.proofs.Change.{call-effect}
 use Rattle.model.proofs.Slot.{room-left}
-use Rattle.model.proofs.Tally.{Tallied, run-tallied}
-use Rattle.model.proofs.Twin.{Match, Found, Searched, twin-searched}
+use Rattle.model.proofs.Tally.{run-tallied}
+use Rattle.model.proofs.Twin.{Searched, twin-searched}
 
 -- ---- names over time
 
