@@ -71,7 +71,7 @@ resolved-ended : (o : Option (List Field)) (s : State) → resolved o s .ended �
 resolved-ended None s = refl
 resolved-ended (Some fs) s = put-ended fs s
 
-resolve-ended : (s : State) → resolve s .ended ≡ s .ended
+pub resolve-ended : (s : State) → resolve s .ended ≡ s .ended
 resolve-ended s = by-test (flagged s) _ _ (λ (x : State). x .ended ≡ s .ended) (λ e. refl)
     (λ e. by-test (nothing-open s) _ _ (λ (x : State). x .ended ≡ s .ended) (λ e. resolved-ended (fields s (s .packed)) s) (λ e. refl))
 
