@@ -15,7 +15,7 @@ use Rattle.std.specs.declared.option.Option.{Option}
 use Rattle.std.specs.declared.option.Option.the-variants.{Some, None}
 use Rattle.std.proofs.shelf.Tests.{ltb-false, eqb-true, eqb-false, or-parts, both-ways, cases-bool}
 use Rattle.model.specs.declared.snapshot.Snapshot.{Snapshot}
-use Rattle.model.specs.State.{State, Object, Pool, with-flags, with-opened}
+use Rattle.model.specs.State.{flag, State, Object, Pool, with-flags, with-opened}
 use Rattle.model.specs.Declining.{flagged, idle}
 use Rattle.model.specs.Closing.{Out, moved, move, pack-new, pack-twin, pack-shared, pack, twin, linkless, close, close-first, pop-pack}
 use Rattle.model.specs.Rewinding.{Discarded, discard, rewound, rewind, discard-first, pop-discard, open-slot, same-slot, cut, revert-snapshot}
@@ -67,12 +67,18 @@ module _ (n : ℕ) (s : State) (sound : Sound-state n s) (soft : hard (s .flags)
   pack-good ne false r = new-good ne
   pack-good ne true r = shared-good ne _ (twin (move o os s .memory) r _ _ (o .real) (s .packed)) r
 
+-- the object closed, and nothing packed
+closed-good : (n : ℕ) (s : State) → Sound-state n s → (os : List Object) → Tails n os → Good n s (with-opened s os (s .pool))
+closed-good n s sound os ts = (with-tails n s os (s .pool) sound ts, refl, refl)
+
+refused-good : (n : ℕ) (s : State) → Sound-state n s → (os : List Object) → Tails n os → Good n s (flag (with-opened s os (s .pool)) other)
+refused-good n s sound os ts = flag-good n s (with-opened s os (s .pool)) other (closed-good n s sound os ts)
+
 close-good : (n : ℕ) (s : State) (sound : Sound-state n s) → hard (s .flags) ≡ false → (share : Bool) (o : Object) (os : List Object) (ts : Tails n os) (r : Pairs) → Good n s (close share o os s r .state)
 close-good n s sound soft share o os ts r =
-    let w : Good n s (with-opened s os (s .pool)) = (with-tails n s os (s .pool) sound ts, refl, refl) in
-    by-test (ltb (s .head) (o .head)) _ _ (λ (x : Out (Option ObjIdx)). Good n s (x .state)) (λ e. flag-good n s (with-opened s os (s .pool)) other w)
+    by-test (ltb (s .head) (o .head)) _ _ (λ (x : Out (Option ObjIdx)). Good n s (x .state)) (λ e. refused-good n s sound os ts)
     (λ over. by-test (eqb (s .head) (o .head)) _ _ (λ (x : Out (Option ObjIdx)). Good n s (x .state))
-    (λ e. by-test (linkless o) _ _ (λ (x : Out (Option ObjIdx)). Good n s (x .state)) (λ e. w) (λ e. flag-good n s (with-opened s os (s .pool)) other w))
+    (λ e. by-test (linkless o) _ _ (λ (x : Out (Option ObjIdx)). Good n s (x .state)) (λ e. closed-good n s sound os ts) (λ e. refused-good n s sound os ts))
     (λ ne. pack-good n s sound soft o os over ts (eqb-false (s .head) (o .head) ne) share r))
 
 pub pop-pack-good : (n : ℕ) (s : State) (sound : Sound-state n s) (share : Bool) (r : Pairs) → Good n s (pop-pack share s r .state)
