@@ -1,37 +1,34 @@
 -- In a register that was empty and is left alone, each pair is that of a packed object, and no two equal objects are both entered.
 use mathlib.Core.Path.{_≡_, refl, sym, ap, subst, _∙_}
-use mathlib.Core.List.{List, [], _∷_, _++_}
-use mathlib.Core.Bool.{Bool, true, false, not, _&&_, _||_}
-use mathlib.Core.Logic.{_⊎_, inl, inr, _≢_}
-use Prim.Native.Nat.{ℕ, suc, _+_, _≤_, _<_}
+use mathlib.Core.List.{List, [], _∷_}
+use mathlib.Core.Bool.{true, false, not, _&&_}
+use mathlib.Core.Logic.{_⊎_, inl, inr}
+use Prim.Native.Nat.{ℕ, _<_}
 use native.Mathlib.Omega.{arith}
-use lib.Dec.{eqb, ltb}
+use lib.Dec.{ltb}
 use lib.ListN.{length}
 use Rattle.link.specs.declared.Link.{Link}
 use Rattle.register.specs.Pairs.{Pairs, same-pair, fits, entered, struck, Counted}
 use Rattle.scalar.specs.Place.{part}
-use Rattle.std.specs.declared.option.Option.{Option}
 use Rattle.std.specs.declared.option.Option.the-variants.{Some, None}
-use Rattle.std.proofs.shelf.Tests.{and-parts, or-cases, or-right, lt-ltb, both-ways, cases-bool, cases-eq, not-true}
-use Rattle.model.specs.State.{State, Object, Pool, index, numbered, slot-back, links-of}
+use Rattle.std.proofs.shelf.Tests.{and-parts, or-cases, both-ways, cases-eq, not-true}
+use Rattle.model.specs.State.{State, Object, Pool, numbered, slot-back, links-of}
 use Rattle.model.specs.Closing.{hash, object-hash, moved, twin}
 use Rattle.model.specs.Rewinding.{Discarded, discard}
-use Rattle.model.specs.Reading.{bytes-of}
-use Rattle.model.specs.Run.{Call, Answer, Beginning, run, call}
-use Rattle.model.specs.Moments.{at, span, depth, count, role}
-use Rattle.model.specs.Sharing.{Names, Entered, Twin, entry, entries}
-use Rattle.model.specs.Offsets.{Still}
-use Rattle.model.specs.Owning.{Left-alone}
+use Rattle.model.specs.Run.{Call, Answer, Beginning, run}
+use Rattle.model.specs.Moments.{at, span, count, role}
+use Rattle.model.specs.Sharing.{entry, entries}
 use Rattle.model.proofs.Split.{by-test}
-use Rattle.model.proofs.Number.{none-some, some-inj, numbered-here, numbered-at, numbered-is, numbered-there, numbered-below, numbered-first}
-use Rattle.model.proofs.Sound.{Sound, Sound-state, Kept}
-use Rattle.model.proofs.Stack.{Called, run-sound, run-called}
+use Rattle.model.proofs.Number.{some-inj, numbered-at, numbered-is, numbered-there, numbered-below, numbered-first}
+use Rattle.model.proofs.Sound.{Kept}
+use Rattle.model.proofs.Stack.{run-sound, run-called}
 use Rattle.model.proofs.Pair.{same-pair-is, same-pair-self, held-counts}
-use Rattle.model.proofs.Last.{Persist, effect-persist, relent-length}
-use Rattle.model.proofs.Effect.{Effect, bytes-in, call-effect}
+use Rattle.model.proofs.Last.{effect-persist, relent-length}
+use Rattle.model.proofs.Effect.{Effect, bytes-in}
+use Rattle.model.proofs.Change.{call-effect}
 use Rattle.model.proofs.Effect.Effect.{same, opens, links, orders, lends, closes, packs, packs-entered, shares, drops, drops-back, cuts, cuts-back, enters, strikes}
 use Rattle.model.proofs.Share.{still-bytes}
-use Rattle.model.proofs.Twin.{Match, Searched, twin-searched}
+use Rattle.model.proofs.Twin.{Searched, twin-searched}
 
 -- each pair held is that of a packed object and its hash
 abbrev Owns : List ℕ → Pairs → List Object → Type 0

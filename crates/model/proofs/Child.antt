@@ -1,16 +1,16 @@
 -- In a live run, what a link's number named when the link was added it names at every moment since.
 use mathlib.Core.Path.{_≡_, refl, sym, ap, subst, _∙_}
 use mathlib.Core.List.{List, [], _∷_, _++_}
-use mathlib.Core.Bool.{Bool, true, false, not, _||_}
+use mathlib.Core.Bool.{not, _||_}
 use mathlib.Core.Logic.{_⊎_, inl, inr}
-use Prim.Native.Nat.{ℕ, suc, _+_, _≤_, _<_, min}
+use Prim.Native.Nat.{ℕ, suc, _≤_, _<_}
 use native.Mathlib.Omega.{arith}
 use lib.Dec.{ltb}
 use lib.ListN.{length, take, length-take}
 use Rattle.link.specs.declared.Link.{Link}
 use Rattle.register.specs.Pairs.{Pairs}
 use Rattle.std.specs.declared.option.Option.{Option}
-use Rattle.std.specs.declared.option.Option.the-variants.{Some, None}
+use Rattle.std.specs.declared.option.Option.the-variants.{Some}
 use Rattle.std.specs.declared.result.Result.the-variants.{Err}
 use Rattle.std.proofs.shelf.Lists.{append-assoc}
 use Rattle.std.proofs.shelf.Tests.{cases-lt}
@@ -21,16 +21,17 @@ use Rattle.model.specs.Linking.{extend, link-tests, linking}
 use Rattle.model.specs.Closing.{Out, out}
 use Rattle.model.specs.Rewinding.{rewound, snapshot, real-count, open-slot, same-slot, cut-first, cut, revert-snapshot}
 use Rattle.model.specs.Reading.{nth}
-use Rattle.model.specs.Run.{Call, Beginning, run, call, revert-to}
+use Rattle.model.specs.Run.{Call, Beginning, run, revert-to}
 use Rattle.model.specs.Run.Call.{Snap, Revert}
 use Rattle.model.specs.Moments.{at, depth, count, Through, Role, role}
 use Rattle.model.specs.Moments.Role.{Reverts, Reverts-elsewhere, Enters, Plain}
-use Rattle.model.specs.Liveness.{Not-older, None-older, Live, May-revert, Live-run}
+use Rattle.model.specs.Liveness.{Not-older, None-older, Live, Live-run}
 use Rattle.model.specs.Offsets.{Has-link, adds, Added, Still}
 use Rattle.model.proofs.Split.{by-test, guarded-keeps}
 use Rattle.model.proofs.Number.{numbered-is, numbered-at, numbered-below, numbered-first, nth-below}
 use Rattle.model.proofs.Last.{still-same, still-then, effect-persist}
-use Rattle.model.proofs.Effect.{Turns, call-effect}
+use Rattle.model.proofs.Effect.{Turns}
+use Rattle.model.proofs.Change.{call-effect}
 use Rattle.model.proofs.Moment.{all-here, Turning, turning, through-here, through-split, through-snoc, through-join, through-map, split-two, older-split, older-snoc, live-drop, live-taken}
 use Rattle.model.proofs.Moment.Turning.{ahead, back, away}
 use Rattle.model.proofs.Nest.{Within, Calm, Undug, calm-from, nest, snap-real}

@@ -1,44 +1,44 @@
 -- In a live run the tails that open objects recorded are edges of the stack of packed objects, and their heads rise inward.
 use mathlib.Core.Path.{_≡_, refl, sym, ap, subst, _∙_}
 use mathlib.Core.List.{List, [], _∷_, _++_}
-use mathlib.Core.Bool.{Bool, true, false, not, cond, _||_}
+use mathlib.Core.Bool.{Bool, not, cond, _||_}
 use mathlib.Core.Logic.{_⊎_, inl, inr}
-use Prim.Native.Nat.{ℕ, zero, suc, _+_, _≤_, _<_}
+use Prim.Native.Nat.{ℕ, _≤_}
 use native.Mathlib.Omega.{arith}
-use lib.Dec.{eqb, ltb}
+use lib.Dec.{ltb}
 use lib.ListN.{length}
-use Rattle.cursor.specs.declared.flags.SerializeErrorFlags.{SerializeErrorFlags}
-use Rattle.cursor.specs.Flags.{none, other, joined, hard}
+use Rattle.cursor.specs.Flags.{other, joined, hard}
 use Rattle.register.specs.Pairs.{Pairs, struck}
 use Rattle.std.specs.declared.option.Option.{Option}
 use Rattle.std.specs.declared.option.Option.the-variants.{Some, None}
 use Rattle.std.proofs.shelf.Lists.{append-assoc}
-use Rattle.std.proofs.shelf.Tests.{ltb-true, ltb-false, eq-eqb, or-parts, both-ways, cases-eq}
+use Rattle.std.proofs.shelf.Tests.{ltb-true, eq-eqb, or-parts, cases-eq}
 use Rattle.model.specs.declared.limit.Limit.{Limit}
 use Rattle.model.specs.declared.snapshot.Snapshot.{Snapshot}
 use Rattle.model.specs.State.{State, Object, Pool, numbered, slot-back, links-of, with-flags, with-opened}
 use Rattle.model.specs.Declining.{flagged, idle}
 use Rattle.model.specs.Closing.{Out, out, object-hash, moved}
-use Rattle.model.specs.Rewinding.{Discarded, discard, edge, rewound, rewind, discard-first, pop-discard, snapshot, open-slot, same-slot, cut-first, cut, revert-snapshot}
+use Rattle.model.specs.Rewinding.{Discarded, discard, rewound, discard-first, pop-discard, snapshot, open-slot, same-slot, cut-first, cut, revert-snapshot}
 use Rattle.model.specs.New.{checked, begun}
-use Rattle.model.specs.Run.{Call, Answer, Beginning, run, call, revert-to}
-use Rattle.model.specs.Run.Call.{PopDiscard, Snap, Revert}
-use Rattle.model.specs.Moments.{at, span, depth, count, role}
+use Rattle.model.specs.Run.{Call, Answer, Beginning, run, revert-to}
+use Rattle.model.specs.Run.Call.{Snap}
+use Rattle.model.specs.Moments.{at, span, depth, role}
 use Rattle.model.specs.Liveness.{Live, May-revert, Live-run}
 use Rattle.model.specs.Stacking.{Stacked, lowest}
 use Rattle.model.specs.Edges.{Edges}
 use Rattle.model.proofs.Split.{by-test}
 use Rattle.model.proofs.Flag.{zero-flags}
-use Rattle.model.proofs.Number.{none-some, some-inj, numbered-here, numbered-at, numbered-is, numbered-there, numbered-below, numbered-first}
-use Rattle.model.proofs.Sound.{Tails, Sound, Sound-state, lowest-le, under-end, not-hard, discard-stacked, edge-lowest}
+use Rattle.model.proofs.Number.{numbered-here, numbered-at, numbered-is, numbered-there, numbered-below, numbered-first}
+use Rattle.model.proofs.Sound.{Tails, Sound-state, lowest-le, under-end}
+use Rattle.model.proofs.Packing.{not-hard, discard-stacked, edge-lowest}
 use Rattle.model.proofs.Stack.{run-sound, numbered-above}
 use Rattle.model.proofs.Last.{relent-still}
-use Rattle.model.proofs.Slot.{cut-length}
-use Rattle.model.proofs.Effect.{Relent, Turns, Effect, call-effect}
+use Rattle.model.proofs.Effect.{Relent, Turns, Effect}
+use Rattle.model.proofs.Change.{call-effect}
 use Rattle.model.proofs.Effect.Effect.{same, opens, links, orders, lends, closes, packs, packs-entered, shares, drops, drops-back, cuts, cuts-back, enters, strikes}
 use Rattle.model.proofs.Moment.{All, all-here, all-drop, Turning, turning, live-taken}
 use Rattle.model.proofs.Moment.Turning.{ahead, back, away}
-use Rattle.model.proofs.Nest.{Within, nest, since-live, cut-level}
+use Rattle.model.proofs.Nest.{Within, nest, since-live}
 
 -- ---- edges of the stack
 

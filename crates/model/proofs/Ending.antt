@@ -2,12 +2,11 @@
 use mathlib.Core.Path.{_≡_, refl, sym, ap, subst, _∙_}
 use mathlib.Core.List.{List, [], _∷_, _++_}
 use mathlib.Core.Bool.{Bool, true, false, not, cond, _||_}
-use mathlib.Core.Logic.{_⊎_, inl, inr}
 use Prim.Native.Nat.{ℕ, zero, suc, _+_, _-_, _*_, _^_, _≤_, _<_}
 use native.Mathlib.Nat.{pow-succ'}
 use native.Mathlib.Omega.{arith}
 use lib.Dec.{eqb, ltb}
-use lib.IntN.{ℤ, pos, _-ℤ_}
+use lib.IntN.{pos, _-ℤ_}
 use lib.ListN.{length, take, drop}
 use lib.Pow.{pow-add, pow-pos}
 use Rattle.cursor.specs.declared.flags.SerializeErrorFlags.{SerializeErrorFlags}
@@ -20,18 +19,19 @@ use Rattle.scalar.proofs.BigEndian.{length-big-endian, number-back}
 use Rattle.std.specs.declared.option.Option.{Option}
 use Rattle.std.specs.declared.option.Option.the-variants.{Some, None}
 use Rattle.std.proofs.shelf.Signed.{ints}
-use Rattle.std.proofs.shelf.Tests.{ltb-false, eqb-true, eqb-false, lt-ltb, or-parts, both-ways}
-use Rattle.model.specs.State.{State, Object, with-opened, with-ended}
+use Rattle.std.proofs.shelf.Tests.{ltb-false, eqb-true, eqb-false, lt-ltb, or-from, or-parts, both-ways}
+use Rattle.model.specs.State.{State, Object, with-ended}
 use Rattle.model.specs.Declining.{flagged, nothing-open, idle}
-use Rattle.model.specs.Closing.{Out, linkless, moved, move, pack-new, close, close-first, pop-pack}
-use Rattle.model.specs.Ending.{Field, fields, largest, put-fields, resolved, resolve, end-over, end-serialize}
-use Rattle.model.specs.Moments.{count}
+use Rattle.model.specs.Closing.{Out, linkless, close, close-first, pop-pack}
+use Rattle.model.specs.Ending.{Field, fields, largest, resolved, resolve, end-over, end-serialize}
 use Rattle.model.specs.Offsets.{shown}
 use Rattle.model.proofs.Split.{by-test, if-false}
+use Rattle.model.proofs.Finish.{resolve-ended}
 use Rattle.model.proofs.Flag.{raised, zero-flags}
 use Rattle.model.proofs.Memory.{from-write, take-write, part-empty}
-use Rattle.model.proofs.Sound.{Sound, Sound-state, Tails, under-end, with-tails, size-is, new-good}
-use Rattle.model.proofs.Effect.{Same-objects, resolve-objects}
+use Rattle.model.proofs.Sound.{Sound-state, Tails, under-end, with-tails}
+use Rattle.model.proofs.Packing.{size-is, new-good}
+use Rattle.model.proofs.Change.{resolve-objects}
 use Rattle.model.proofs.Output.{Placed, puts-placed}
 
 abbrev own : State → Object → List ℕ
@@ -143,6 +143,20 @@ module _ (n : ℕ) (s : State) (d : Sound-state n s) (r : Pairs) (going : s .end
       first : nothing-open s ≡ false → s .flags ≡ none → (os : List Object) → s .opened ≡ os → end-over (s .packed) s r .state .ended ≡ true → end-over (s .packed) s r .state .flags ≡ none → Ending n s (end-over (s .packed) s r .state)
       first u clean [] is = absurd (both-ways (nothing-open s) u (ap (λ (x : List Object). elim x as (λ y. Bool) [ [] ↦ true | _∷_ p ps ↦ false ]) is))
       first u clean (_∷_ o os) is = over o os is clean (s .packed)
+
+-- an ending without flags over an open object and packed ones ends
+pub end-ends : (s : State) (r : Pairs) → s .ended ≡ false → s .flags ≡ none → 0 < length (s .opened) → 0 < length (s .packed) → end-serialize s r .state .ended ≡ true
+end-ends s r going clean deep some =
+    by-test (s .ended || nothing-open s) _ _ (λ (x : Out (Unit {0})). x .state .ended ≡ true) (λ t. absurd (both-ways (s .ended || nothing-open s) (or-from (s .ended) (nothing-open s) going (opens (s .opened) deep)) t))
+    (λ t. by-test (flagged s) _ _ (λ (x : Out (Unit {0})). x .state .ended ≡ true) (λ f. absurd (both-ways (flagged s) (ap (λ (x : SerializeErrorFlags). not (same-flags x none)) clean) f)) (λ f. over (s .packed) some))
+  where
+    opens : (os : List Object) → 0 < length os → (elim os [ [] ↦ true | _∷_ o os ↦ false ]) ≡ false
+    opens [] l = absurd (omega arith)
+    opens (_∷_ o os) l = refl
+
+    over : (ps : List Object) → 0 < length ps → end-over ps s r .state .ended ≡ true
+    over [] l = absurd (omega arith)
+    over (_∷_ p ps) l = resolve-ended (with-ended (pop-pack false s r .state))
 
 -- ---- what a field shows
 

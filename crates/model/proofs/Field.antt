@@ -1,8 +1,7 @@
 -- Which link each field that an ending writes belongs to: every link has its field, and the fields behind it belong to other links.
 use mathlib.Core.Path.{_≡_, refl, sym, ap, subst, _∙_}
 use mathlib.Core.List.{List, [], _∷_, _++_}
-use mathlib.Core.Bool.{Bool, true, false}
-use mathlib.Core.Logic.{_⊎_, inl, inr}
+use mathlib.Core.Logic.{inl, inr}
 use Prim.Native.Nat.{ℕ, suc, _+_, _≤_, _<_}
 use native.Mathlib.Omega.{arith}
 use lib.Dec.{eqb}
@@ -92,12 +91,15 @@ labs-others : (s : State) (ps : List Object) (k n i : ℕ) (fs : List Field) →
 labs-others s ps k n i [] l t = tt
 labs-others s ps k n i (_∷_ h hs) l t = ((k, n, t .0, λ z. let y = z .1 in omega arith), labs-others s ps k (suc n) i hs (omega arith) (t .1))
 
+-- behind other fields
+spot-behind : (s : State) (ps : List Object) (es fs : List Field) (k i : ℕ) → Spot s ps fs k i → Spot s ps (es ++ fs) k i
+spot-behind s ps es fs k i q = record { front = es ++ q .front; here = q .here; rest = q .rest; split = ap (λ (x : List Field). es ++ x) (q .split) ∙ sym (append-assoc es (q .front) (q .here ∷ q .rest)); lab = q .lab; others = q .others }
+
 labs-spot : (s : State) (ps : List Object) (k n i : ℕ) (fs : List Field) → n ≤ i → i < n + length fs → Labs s ps k n fs → Spot s ps fs k i
 labs-spot s ps k n i [] l u t = absurd (omega arith)
 labs-spot s ps k n i (_∷_ h hs) l u t = elim (cases-bool (eqb n i)) [
   | inl e ↦ subst (λ (x : ℕ). Spot s ps (h ∷ hs) k x) (eqb-true n i e) (record { front = []; here = h; rest = hs; split = refl; lab = t .0; others = labs-others s ps k (suc n) n hs (omega arith) (t .1) })
-  | inr e ↦ let ne = eqb-false n i e in let q = labs-spot s ps k (suc n) i hs (omega arith) (omega arith) (t .1) in
-      record { front = h ∷ q .front; here = q .here; rest = q .rest; split = ap (λ (x : List Field). h ∷ x) (q .split); lab = q .lab; others = q .others }
+  | inr e ↦ let ne = eqb-false n i e in spot-behind s ps (h ∷ []) hs k i (labs-spot s ps k (suc n) i hs (omega arith) (omega arith) (t .1))
 ]
 
 -- one object more
@@ -118,6 +120,17 @@ labs-apart : (s : State) (ps : List Object) (k n k′ i : ℕ) (fs : List Field)
 labs-apart s ps k n k′ i [] ne t = tt
 labs-apart s ps k n k′ i (_∷_ h hs) ne t = ((k, n, t .0, λ z. ne (z .0)), labs-apart s ps k (suc n) k′ i hs ne (t .1))
 
+-- before the fields of one object more
+spot-more : (s : State) (o : Object) (ps : List Object) (es ds : List Field) (k i : ℕ) → Others s (o ∷ ps) k i ds → Spot s ps es k i → Spot s (o ∷ ps) (es ++ ds) k i
+spot-more s o ps es ds k i t q = record {
+  front = q .front;
+  here = q .here;
+  rest = q .rest ++ ds;
+  split = ap (λ (x : List Field). x ++ ds) (q .split) ∙ append-assoc (q .front) (q .here ∷ q .rest) ds;
+  lab = lab-more s o ps k i (q .here) (q .lab);
+  others = others-join s (o ∷ ps) k i (q .rest) ds (others-more s o ps k i (q .rest) (q .others)) t;
+}
+
 -- ---- all links
 
 -- every link of a packed object has its field, and the fields behind it belong to other links
@@ -126,23 +139,15 @@ spots s [] fs f k p e i l = absurd (none-some p e)
 spots s (_∷_ o os) fs f k p e i l =
     let a = and-then-some (fields s os) (fields-of s o (o .real)) fs f in
     let t = labs-of s (o ∷ os) (length os) o (numbered-here o os) [] (o .real) (a .1) refl (a .3) in
-    elim (cases-bool (eqb (length os) k)) [
+    subst (λ (x : List Field). Spot s (o ∷ os) x k i) (sym (a .4))
+    (elim (cases-bool (eqb (length os) k)) [
       | inl u ↦ let g = eqb-true (length os) k u in
           let v : o ≡ p = numbered-first o p os k g e in
-          let q = labs-spot s (o ∷ os) (length os) 0 i (a .1) (omega arith) (let z = t .1 in let y = ap (λ (x : Object). length (x .real)) v in omega arith) (t .0) in
-          subst (λ (x : ℕ). Spot s (o ∷ os) fs x i) g
-          (record { front = a .0 ++ q .front; here = q .here; rest = q .rest; split = a .4 ∙ (ap (λ (x : List Field). a .0 ++ x) (q .split) ∙ sym (append-assoc (a .0) (q .front) (q .here ∷ q .rest))); lab = q .lab; others = q .others })
+          subst (λ (x : ℕ). Spot s (o ∷ os) (a .0 ++ a .1) x i) g
+          (spot-behind s (o ∷ os) (a .0) (a .1) (length os) i (labs-spot s (o ∷ os) (length os) 0 i (a .1) (omega arith) (let z = t .1 in let y = ap (λ (x : Object). length (x .real)) v in omega arith) (t .0)))
       | inr u ↦ let ne = eqb-false (length os) k u in
-          let q = spots s os (a .0) (a .2) k p (sym (numbered-there o os k ne) ∙ e) i l in
-          record {
-            front = q .front;
-            here = q .here;
-            rest = q .rest ++ a .1;
-            split = a .4 ∙ (ap (λ (x : List Field). x ++ a .1) (q .split) ∙ append-assoc (q .front) (q .here ∷ q .rest) (a .1));
-            lab = lab-more s o os k i (q .here) (q .lab);
-            others = others-join s (o ∷ os) k i (q .rest) (a .1) (others-more s o os k i (q .rest) (q .others)) (labs-apart s (o ∷ os) (length os) 0 k i (a .1) ne (t .0));
-          }
-    ]
+          spot-more s o os (a .0) (a .1) k i (labs-apart s (o ∷ os) (length os) 0 k i (a .1) ne (t .0)) (spots s os (a .0) (a .2) k p (sym (numbered-there o os k ne) ∙ e) i l)
+    ])
 
 -- each field belongs to a link, seen from a number that no object has
 pub all-labelled : (s : State) (ps : List Object) (fs : List Field) → fields s ps ≡ Some fs → (k i : ℕ) → length ps ≤ k → Others s ps k i fs

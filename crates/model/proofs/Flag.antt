@@ -1,12 +1,12 @@
 -- Flags: a hard set stays hard whatever joins it, and joining none changes nothing.
-use mathlib.Core.Path.{_≡_, refl, sym, ap, subst, _∙_}
+use mathlib.Core.Path.{_≡_, refl, sym, ap, subst}
 use mathlib.Core.Bool.{Bool, true, false, not, _&&_, _||_}
-use mathlib.Core.Logic.{_⊎_, inl, inr}
-use Prim.Native.Nat.{ℕ, zero, suc, _+_, _≤_, _<_}
+use mathlib.Core.Logic.{inl, inr}
+use Prim.Native.Nat.{ℕ, zero, suc, _≤_, _<_}
 use native.Mathlib.Nat.{not-suc-le-zero}
 use native.Mathlib.Omega.{arith}
 use lib.Dec.{eqb}
-use lib.Bits.{bitOr, bitAnd, or-add-and, and-le-l, and-le-r, or-zero-r}
+use lib.Bits.{bitOr, or-add-and, and-le-l, and-le-r, or-zero-r}
 use Rattle.cursor.specs.declared.flags.SerializeErrorFlags.{SerializeErrorFlags}
 use Rattle.cursor.specs.Flags.{flags, none, joined, hard}
 use Rattle.std.proofs.shelf.Tests.{cases-bool, cases-lt, eqb-true, eqb-false, or-cases, and-parts, both-ways, not-false}

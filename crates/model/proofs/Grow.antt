@@ -1,25 +1,22 @@
 -- What a call that reverts nothing does to open and packed objects: levels stay as they were recorded, and only a discarded object takes packed ones with it.
 use mathlib.Core.Path.{_≡_, refl, sym, ap, subst, _∙_}
-use mathlib.Core.List.{List, [], _∷_, _++_}
-use mathlib.Core.Bool.{Bool, true, false}
+use mathlib.Core.List.{List, [], _∷_}
 use mathlib.Core.Logic.{_⊎_, inl, inr}
-use Prim.Native.Nat.{ℕ, suc, _+_, _≤_, _<_}
+use Prim.Native.Nat.{ℕ, _≤_, _<_}
 use native.Mathlib.Omega.{arith}
 use lib.Dec.{eqb, ltb}
 use lib.ListN.{length, length-append}
-use Rattle.link.specs.declared.Link.{Link}
 use Rattle.register.specs.Pairs.{Pairs, struck}
-use Rattle.std.specs.declared.option.Option.{Option}
-use Rattle.std.specs.declared.option.Option.the-variants.{Some, None}
+use Rattle.std.specs.declared.option.Option.the-variants.{Some}
 use Rattle.std.proofs.shelf.Tests.{eqb-true, eqb-false, ltb-true, cases-bool, cases-lt}
 use Rattle.model.specs.State.{State, Object, Pool, numbered, slot-back, links-of}
-use Rattle.model.specs.Closing.{object-hash, moved}
+use Rattle.model.specs.Closing.{object-hash}
 use Rattle.model.specs.Rewinding.{Discarded, discard}
 use Rattle.model.specs.Run.{Call, Answer}
 use Rattle.model.specs.Moments.{depth, count, role}
 use Rattle.model.proofs.Split.{by-test}
 use Rattle.model.proofs.Number.{numbered-here, numbered-at, numbered-there, numbered-below, numbered-first}
-use Rattle.model.proofs.Last.{Persist, persist-same, effect-persist, relent-length}
+use Rattle.model.proofs.Last.{Persist, effect-persist, relent-length}
 use Rattle.model.proofs.Effect.{Turns, Effect, opened-in, with-link, with-virtual}
 use Rattle.model.proofs.Effect.Effect.{same, opens, links, orders, lends, closes, packs, packs-entered, shares, drops, drops-back, cuts, cuts-back, enters, strikes}
 

@@ -1,15 +1,15 @@
 -- What a call leaves of the packed objects and of the pairs held: an object whose number stands is still there, and so is a pair under it unless its owner strikes it.
 use mathlib.Core.Path.{_≡_, refl, sym, ap, subst, _∙_}
-use mathlib.Core.List.{List, [], _∷_, _++_}
-use mathlib.Core.Bool.{Bool, true, false}
-use mathlib.Core.Logic.{_⊎_, inl, inr, _≢_}
+use mathlib.Core.List.{List, [], _∷_}
+use mathlib.Core.Bool.{true}
+use mathlib.Core.Logic.{inl, inr, _≢_}
 use Prim.Native.Nat.{ℕ, suc, _≤_, _<_}
 use native.Mathlib.Omega.{arith}
 use lib.Dec.{eqb, ltb}
 use lib.ListN.{length}
 use Rattle.register.specs.Pairs.{Pairs, same-pair, struck}
 use Rattle.std.specs.declared.option.Option.{Option}
-use Rattle.std.specs.declared.option.Option.the-variants.{Some, None}
+use Rattle.std.specs.declared.option.Option.the-variants.{Some}
 use Rattle.std.proofs.shelf.Tests.{eqb-true, eqb-false, cases-bool}
 use Rattle.model.specs.State.{State, Object, Pool, index, numbered, slot-back, links-of}
 use Rattle.model.specs.Closing.{object-hash, moved}
@@ -18,9 +18,9 @@ use Rattle.model.specs.Run.{Call, Answer}
 use Rattle.model.specs.Run.Call.{OwnerStrike}
 use Rattle.model.specs.Offsets.{Still}
 use Rattle.model.proofs.Split.{by-test}
-use Rattle.model.proofs.Number.{none-some, some-inj, numbered-here, numbered-at, numbered-there, numbered-below}
+use Rattle.model.proofs.Number.{none-some, some-inj, numbered-at, numbered-there, numbered-below}
 use Rattle.model.proofs.Pair.{same-pair-is, other-pair, has-entered, has-struck}
-use Rattle.model.proofs.Effect.{Alike, Relent, Effect}
+use Rattle.model.proofs.Effect.{Relent, Effect}
 use Rattle.model.proofs.Effect.Effect.{same, opens, links, orders, lends, closes, packs, packs-entered, shares, drops, drops-back, cuts, cuts-back, enters, strikes}
 
 -- ---- objects

@@ -1,21 +1,17 @@
 -- Moments of a run: what holds through calls, joined and split, and what a call that took a snapshot answered.
 use mathlib.Core.Path.{_≡_, refl, sym, ap, subst, _∙_}
 use mathlib.Core.List.{List, [], _∷_, _++_}
-use mathlib.Core.Bool.{Bool, true, false}
-use mathlib.Core.Logic.{_⊎_, inl, inr}
-use Prim.Native.Nat.{ℕ, suc, _+_, _≤_, _<_}
+use Prim.Native.Nat.{ℕ, suc, _≤_}
 use native.Mathlib.Omega.{arith}
-use lib.Dec.{eqb}
 use lib.ListN.{length, length-append}
-use Rattle.std.specs.declared.option.Option.{Option}
-use Rattle.std.specs.declared.option.Option.the-variants.{Some, None}
+use Rattle.std.specs.declared.option.Option.the-variants.{Some}
 use Rattle.std.proofs.shelf.Lists.{append-assoc}
 use Rattle.std.proofs.shelf.Tests.{eq-eqb, ne-eqb}
 use Rattle.model.specs.declared.snapshot.Snapshot.{Snapshot}
 use Rattle.model.specs.Rewinding.{snapshot}
-use Rattle.model.specs.Run.{Call, Answer, Beginning, run, call, taken, taken-at}
+use Rattle.model.specs.Run.{Call, Beginning, run, call, taken, taken-at}
 use Rattle.model.specs.Run.Call.{SetErr, Start, Push, Allocate, Pad, Embed, Assign, CheckAssign, AddLink, AddVirtual, Repack, PopPack, PopDiscard, Snap, Revert, RevertForeign, End, Read, OwnerEnter, OwnerStrike}
-use Rattle.model.specs.Moments.{at, depth, Through, role}
+use Rattle.model.specs.Moments.{at, Through, role}
 use Rattle.model.specs.Liveness.{Not-older, None-older, Live, Live-run}
 use Rattle.model.proofs.Split.{if-true, if-false}
 use Rattle.model.proofs.Effect.{Turns}

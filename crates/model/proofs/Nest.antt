@@ -1,15 +1,15 @@
 -- In a live run no call digs below the moment at which a still open object was opened, or a live snapshot taken: what was packed then stays, and head does not fall below.
 use mathlib.Core.Path.{_≡_, refl, sym, ap, subst, subst₂, _∙_}
 use mathlib.Core.List.{List, [], _∷_, _++_}
-use mathlib.Core.Bool.{Bool, true, false, not, _||_}
+use mathlib.Core.Bool.{not, _||_}
 use mathlib.Core.Logic.{_⊎_, inl, inr}
-use Prim.Native.Nat.{ℕ, suc, _+_, _≤_, _<_, min}
+use Prim.Native.Nat.{ℕ, suc, _≤_, _<_, min}
 use native.Mathlib.Omega.{arith}
 use lib.Dec.{eqb, ltb}
 use lib.ListN.{length, take, length-take}
 use Rattle.register.specs.Pairs.{Pairs}
 use Rattle.std.specs.declared.option.Option.{Option}
-use Rattle.std.specs.declared.option.Option.the-variants.{Some, None}
+use Rattle.std.specs.declared.option.Option.the-variants.{Some}
 use Rattle.std.proofs.shelf.Lists.{append-assoc}
 use Rattle.std.proofs.shelf.Tests.{eqb-true, eqb-false, cases-bool}
 use Rattle.model.specs.declared.snapshot.Snapshot.{Snapshot}
@@ -17,19 +17,19 @@ use Rattle.model.specs.State.{State, Object, numbered, with-flags}
 use Rattle.model.specs.Declining.{flagged, idle}
 use Rattle.model.specs.Closing.{Out, out}
 use Rattle.model.specs.Rewinding.{discard, rewound, snapshot, real-count, open-slot, same-slot, cut-first, cut, revert-snapshot}
-use Rattle.model.specs.Run.{Call, Beginning, run, call, revert-to, taken-at}
+use Rattle.model.specs.Run.{Call, Beginning, run, revert-to}
 use Rattle.model.specs.Run.Call.{Snap, Revert}
 use Rattle.model.specs.Moments.{at, span, depth, count, Through, role}
 use Rattle.model.specs.Liveness.{Not-older, None-older, Live, May-revert, Live-run}
-use Rattle.model.specs.Offsets.{Still}
 use Rattle.model.proofs.Split.{by-test}
 use Rattle.model.proofs.Number.{none-some, some-inj, numbered-is, numbered-at, numbered-here, numbered-there, numbered-below, numbered-first}
-use Rattle.model.proofs.Sound.{Sound, Sound-state}
+use Rattle.model.proofs.Sound.{Sound-state}
 use Rattle.model.proofs.Stack.{run-sound, numbered-above}
 use Rattle.model.proofs.Last.{Persist, persist-same, discard-persist}
 use Rattle.model.proofs.Slot.{cut-length}
-use Rattle.model.proofs.Effect.{Turns, call-effect}
-use Rattle.model.proofs.Grow.{Level, Step, discard-floor, effect-step}
+use Rattle.model.proofs.Effect.{Turns}
+use Rattle.model.proofs.Change.{call-effect}
+use Rattle.model.proofs.Grow.{Step, discard-floor, effect-step}
 use Rattle.model.proofs.Moment.{All, all-here, all-drop, Turning, turning, through-here, through-split, through-snoc, split-two, older-snoc, live-taken}
 use Rattle.model.proofs.Moment.Turning.{ahead, back, away}
 

@@ -1,12 +1,12 @@
 -- The law's third part: the output of an ending that leaves no flag.
-use mathlib.Core.Path.{_≡_, refl, sym, ap, subst, _∙_}
+use mathlib.Core.Path.{_≡_, sym, ap, subst, _∙_}
 use mathlib.Core.List.{List, [], _∷_, _++_}
-use mathlib.Core.Bool.{Bool, true, false, not, cond}
+use mathlib.Core.Bool.{Bool, true, false, not}
 use mathlib.Core.Logic.{_⊎_, inl, inr}
 use Prim.Native.Nat.{ℕ, suc, _+_, _-_, _≤_, _<_}
 use native.Mathlib.Omega.{arith}
 use lib.Dec.{eqb, ltb}
-use lib.IntN.{ℤ, pos, _-ℤ_}
+use lib.IntN.{pos, _-ℤ_}
 use lib.ListN.{length, take, drop, getD, length-drop}
 use lib.Seq.{drop-drop}
 use Rattle.cursor.specs.declared.flags.SerializeErrorFlags.{SerializeErrorFlags}
@@ -25,26 +25,24 @@ use Rattle.std.proofs.shelf.Signed.{ints}
 use Rattle.std.proofs.shelf.Tests.{ltb-false, le-ltb, ne-eqb, cases-lt}
 use Rattle.model.specs.State.{State, Object, numbered}
 use Rattle.model.specs.Declining.{flagged}
-use Rattle.model.specs.Ending.{Field, reach, field, fields, largest}
+use Rattle.model.specs.Ending.{Field, reach, field}
 use Rattle.model.specs.Reading.{nth, output}
 use Rattle.model.specs.Run.{Call, Beginning, run}
-use Rattle.model.specs.Run.Call.{End, Read}
-use Rattle.model.specs.Run.Reading.{CopyBytes}
+use Rattle.model.specs.Run.Call.{End}
 use Rattle.model.specs.Run.Answer.{Bytes}
-use Rattle.model.specs.Moments.{at, answered, span, Through}
-use Rattle.model.specs.Stacking.{Stacked, lowest}
-use Rattle.model.specs.Liveness.{Live-run}
-use Rattle.model.specs.Offsets.{place, distance, shown, Field-of, from, to, Inside, Meets-none, Added, Still, adds, Reads-back, contents, Law-c}
+use Rattle.model.specs.Moments.{at, span}
+use Rattle.model.specs.Offsets.{place, distance, shown, Field-of, from, to, Inside, Meets-none, Reads-back, contents, Law-c}
 use Rattle.model.proofs.Split.{by-test, if-false}
 use Rattle.model.proofs.Memory.{part-inside, getD-part}
 use Rattle.model.proofs.Number.{none-some, some-inj, nth-below}
-use Rattle.model.proofs.Sound.{Sound, Sound-state, under-end, not-hard}
+use Rattle.model.proofs.Sound.{under-end}
+use Rattle.model.proofs.Packing.{not-hard}
 use Rattle.model.proofs.Stack.{run-sound, numbered-above}
 use Rattle.model.proofs.Origin.{all-added}
 use Rattle.model.proofs.Child.{child-stood}
-use Rattle.model.proofs.Output.{contents-drop, one-placed, placed, Placed, Fit, All-fit, length-one, length-placed, placed-append, fit-append, Clear, placed-outside}
+use Rattle.model.proofs.Output.{contents-drop, one-placed, placed, Fit, All-fit, length-one, length-placed, placed-append, fit-append, Clear, placed-outside}
 use Rattle.model.proofs.Field.{Lab, Others, Spot, spots, all-labelled}
-use Rattle.model.proofs.Ending.{Popped, Ending, end-ending, shown-field, minus}
+use Rattle.model.proofs.Ending.{Ending, end-ending, shown-field, minus}
 
 -- ---- one field
 

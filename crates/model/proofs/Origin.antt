@@ -1,9 +1,8 @@
 -- Each link of a packed object was added by a call that was accepted, in an object that kept it until it was closed under its number.
-use mathlib.Core.Path.{_≡_, refl, sym, ap, subst, _∙_}
+use mathlib.Core.Path.{_≡_, sym, ap, subst, _∙_}
 use mathlib.Core.List.{List, [], _∷_, _++_}
-use mathlib.Core.Logic.{_⊎_, inl, inr}
-use Prim.Native.Nat.{ℕ, suc, _+_, _-_, _≤_, _<_}
-use native.Mathlib.Omega.{arith}
+use mathlib.Core.Logic.{inl, inr}
+use Prim.Native.Nat.{ℕ, suc, _+_, _-_}
 use lib.ListN.{length}
 use Rattle.link.specs.declared.Link.{Link}
 use Rattle.link.specs.Width.{bytes-of-width}
@@ -11,15 +10,16 @@ use Rattle.std.specs.declared.option.Option.{Option}
 use Rattle.std.specs.declared.option.Option.the-variants.{Some, None}
 use Rattle.std.specs.declared.result.Result.the-variants.{Ok}
 use Rattle.model.specs.declared.limit.Limit.{Limit}
-use Rattle.model.specs.State.{State, Object, numbered}
+use Rattle.model.specs.State.{Object, numbered}
 use Rattle.model.specs.New.{checked, begun}
 use Rattle.model.specs.Reading.{nth}
-use Rattle.model.specs.Run.{Call, Answer, Beginning, run, call}
+use Rattle.model.specs.Run.{Call, Beginning, run}
 use Rattle.model.specs.Run.Answer.{Done}
 use Rattle.model.specs.Moments.{at, answered, depth, count, Through}
 use Rattle.model.specs.Offsets.{Has-link, adds, Added}
-use Rattle.model.proofs.Number.{none-some, some-inj, numbered-here, numbered-at, nth-at, nth-more}
-use Rattle.model.proofs.Effect.{Adds, call-effect}
+use Rattle.model.proofs.Number.{none-some, numbered-here, numbered-at, nth-at, nth-more}
+use Rattle.model.proofs.Effect.{Adds}
+use Rattle.model.proofs.Change.{call-effect}
 use Rattle.model.proofs.Trail.{Kind, From, effect-opens, effect-packs}
 use Rattle.model.proofs.Trail.Kind.{was, fresh, linked}
 use Rattle.model.proofs.Trail.From.{stood, closed}

@@ -1,19 +1,19 @@
 -- A register left alone never answers no, and holds one entered object to the same bytes and links.
-use mathlib.Core.Path.{_≡_, refl, sym, ap, subst, _∙_}
+use mathlib.Core.Path.{_≡_, refl, sym, ap, _∙_}
 use mathlib.Core.List.{List, [], _∷_}
-use mathlib.Core.Bool.{Bool, true, false}
-use mathlib.Core.Logic.{_⊎_, inl, inr, _≢_}
-use Prim.Native.Nat.{ℕ, suc, _+_, _≤_, _<_}
+use mathlib.Core.Bool.{true, false}
+use mathlib.Core.Logic.{inl, inr}
+use Prim.Native.Nat.{ℕ, _<_}
 use native.Mathlib.Omega.{arith}
 use lib.Dec.{ltb}
 use lib.ListN.{length}
 use Rattle.link.specs.declared.Link.{Link}
 use Rattle.link.specs.declared.ObjIdx.{ObjIdx}
-use Rattle.register.specs.Pairs.{Pairs, fits, Counted}
+use Rattle.register.specs.Pairs.{Pairs, fits}
 use Rattle.std.specs.declared.option.Option.{Option}
-use Rattle.std.specs.declared.option.Option.the-variants.{Some, None}
+use Rattle.std.specs.declared.option.Option.the-variants.{Some}
 use Rattle.std.proofs.shelf.Tests.{or-right, lt-ltb}
-use Rattle.model.specs.State.{State, Object, index, numbered}
+use Rattle.model.specs.State.{State, Object, index}
 use Rattle.model.specs.Declining.{idle}
 use Rattle.model.specs.Closing.{Out, object-hash, close-first, pop-pack}
 use Rattle.model.specs.Reading.{bytes-of}
@@ -21,15 +21,15 @@ use Rattle.model.specs.Run.{Call, Beginning, run}
 use Rattle.model.specs.Run.Call.{PopPack, End, OwnerStrike}
 use Rattle.model.specs.Run.Answer.{Number}
 use Rattle.model.specs.Moments.{at, answered, span, depth, count}
-use Rattle.model.specs.Sharing.{Entered, Twin, entries}
+use Rattle.model.specs.Sharing.{Entered, Twin}
 use Rattle.model.specs.Owning.{Left-alone, Owning}
 use Rattle.model.proofs.Split.{by-test}
 use Rattle.model.proofs.Number.{none-some, some-inj, numbered-below}
 use Rattle.model.proofs.Stack.{run-sound, run-called}
 use Rattle.model.proofs.Slot.{room-left}
 use Rattle.model.proofs.Tally.{run-tallied}
-use Rattle.model.proofs.Share.{Closed, pop-closed, unended, said, shared-so, entered-stays}
-use Rattle.model.proofs.Alone.{Lone, run-lone}
+use Rattle.model.proofs.Share.{pop-closed, said, shared-so, entered-stays}
+use Rattle.model.proofs.Alone.{run-lone}
 
 has-room : (b : Beginning) (cs : List Call) → Left-alone b cs → at b cs .ended ≡ false → 0 < depth (at b cs) → (h k : ℕ) → fits (run b cs .register) h k ≡ true
 has-room b cs a going deep h k =

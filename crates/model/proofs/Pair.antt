@@ -1,16 +1,16 @@
 -- Pairs of a register: which stay when one is entered or struck, and how their count goes. Sharing rests on it.
-use mathlib.Core.Path.{_≡_, refl, sym, ap, subst, _∙_}
+use mathlib.Core.Path.{_≡_, refl, sym, ap, _∙_}
 use mathlib.Core.List.{List, [], _∷_}
 use mathlib.Core.Bool.{Bool, true, false, not, cond, _&&_, _||_}
-use mathlib.Core.Logic.{_⊎_, inl, inr}
-use Prim.Native.Nat.{ℕ, suc, _+_, _-_, _≤_, _<_}
+use mathlib.Core.Logic.{inl, inr}
+use Prim.Native.Nat.{ℕ, suc, _+_, _≤_, _<_}
 use native.Mathlib.Omega.{arith}
 use lib.Dec.{eqb, ltb}
 use lib.ListN.{length}
 use Rattle.register.specs.Pairs.{Pairs, same-pair, fits, entered, struck, among, distinct, Counted}
 use Rattle.std.proofs.shelf.Ways.{tells}
 use Rattle.model.proofs.Split.{by-test}
-use Rattle.std.proofs.shelf.Tests.{eqb-true, eqb-false, eq-eqb, ltb-true, ltb-false, and-parts, and-from, and-left, and-right, or-left, or-right, or-from, or-parts, or-cases, not-true, not-from-true, not-from-false, both-ways, cases-bool, cond-true, cond-false}
+use Rattle.std.proofs.shelf.Tests.{eqb-true, eq-eqb, ltb-true, ltb-false, and-parts, and-from, and-left, and-right, or-left, or-right, or-parts, or-cases, not-true, not-from-true, not-from-false, both-ways, cases-bool, cond-true, cond-false}
 
 or-nothing : (a b : Bool) → b ≡ false → (a || b) ≡ a
 or-nothing true b e = refl

@@ -1,9 +1,9 @@
 -- The law's second part: what numbers name, and which equal objects share one.
 use mathlib.Core.Path.{_≡_, refl, sym, ap, subst, _∙_}
 use mathlib.Core.List.{List, [], _∷_, _++_}
-use mathlib.Core.Bool.{Bool, true, false, _||_}
+use mathlib.Core.Bool.{Bool, true, false}
 use mathlib.Core.Logic.{_⊎_, inl, inr, _≢_}
-use Prim.Native.Nat.{ℕ, suc, _+_, _-_, _≤_, _<_}
+use Prim.Native.Nat.{ℕ, _-_, _≤_, _<_}
 use native.Mathlib.Omega.{arith}
 use lib.Dec.{eqb, ltb}
 use lib.ListN.{length}
@@ -14,29 +14,31 @@ use Rattle.register.specs.Pairs.{Pairs, fits, entered, Counted}
 use Rattle.scalar.specs.Place.{part}
 use Rattle.std.specs.declared.option.Option.{Option}
 use Rattle.std.specs.declared.option.Option.the-variants.{Some, None}
-use Rattle.std.proofs.shelf.Tests.{or-parts, both-ways, cases-bool}
+use Rattle.std.proofs.shelf.Tests.{le-ltb, ne-eqb, or-from, or-parts, both-ways, cases-bool}
 use Rattle.model.specs.State.{State, Object, index, numbered}
 use Rattle.model.specs.Declining.{idle}
 use Rattle.model.specs.Closing.{Out, out, hash, object-hash, twin, moved, move, pack-new, pack-twin, pack-shared, pack, linkless, close, close-first, pop-pack}
 use Rattle.model.specs.Reading.{bytes-of}
-use Rattle.model.specs.Run.{Call, Answer, Beginning, run}
+use Rattle.model.specs.Run.{Call, Beginning, run}
 use Rattle.model.specs.Run.Call.{PopPack, OwnerStrike}
 use Rattle.model.specs.Run.Answer.{Number}
 use Rattle.model.specs.Moments.{at, answered, span, depth, count, Through}
 use Rattle.model.specs.Stacking.{lowest}
-use Rattle.model.specs.Sharing.{Names, Entered, Twin, Owner-filled, Shared, entries, Law-b}
+use Rattle.model.specs.Sharing.{Names, Entered, Twin, Owner-filled, Shared, Law-b}
 use Rattle.model.specs.Offsets.{Still}
-use Rattle.model.proofs.Split.{by-test}
+use Rattle.model.proofs.Split.{by-test, if-false}
 use Rattle.model.proofs.Memory.{part-kept, part-inside}
 use Rattle.model.proofs.Number.{none-some, some-inj, numbered-at}
-use Rattle.model.proofs.Sound.{Sound, Sound-state, Kept, Tails, under-end, idle-hard, size-is, moved-good}
-use Rattle.model.proofs.Stack.{Called, run-sound, run-called, numbered-above}
+use Rattle.model.proofs.Sound.{Sound-state, Kept, Tails, under-end}
+use Rattle.model.proofs.Packing.{idle-hard, size-is, moved-good}
+use Rattle.model.proofs.Stack.{run-sound, run-called, numbered-above}
 use Rattle.model.proofs.Pair.{entered-has, full-so}
 use Rattle.model.proofs.Last.{effect-persist, effect-pairs, relent-still}
-use Rattle.model.proofs.Effect.{lend-relent, call-effect}
+use Rattle.model.proofs.Effect.{lend-relent}
+use Rattle.model.proofs.Change.{call-effect}
 use Rattle.model.proofs.Slot.{room-left}
-use Rattle.model.proofs.Tally.{Tallied, run-tallied}
-use Rattle.model.proofs.Twin.{Match, Found, Searched, twin-searched}
+use Rattle.model.proofs.Tally.{run-tallied}
+use Rattle.model.proofs.Twin.{Searched, twin-searched}
 
 -- ---- names over time
 
@@ -189,6 +191,22 @@ module _ (s : State) (r : Pairs) where
           (λ t. by-test (linkless o) _ _ (λ (x : Out (Option ObjIdx)). x .answer ≡ Some (index k) → k ≡ length (s .packed)) (λ t a. absurd (none-some (index k) a)) (λ t a. absurd (none-some (index k) a)))
           (λ t a. sym (index-inj (length (s .packed)) k a)))
 
+  -- an object with bytes gets a number
+  given : (share : Bool) (o : Object) (os : List Object) → s .opened ≡ o ∷ os → o .head < s .head → hard (s .flags) ≡ false → s .ended ≡ false → (k : ℕ) × (pop-pack share s r .answer ≡ Some (index k))
+  given share o os is l soft going =
+      let active : idle s ≡ false = or-from (s .ended) (hard (s .flags)) going soft in
+      let q : pop-pack share s r ≡ close share o os s r = if-false (idle s) _ _ active ∙ ap (λ (x : List Object). close-first share x s r) is in
+      let c : close share o os s r ≡ pack share (moved o s) (move o os s) r = if-false (ltb (s .head) (o .head)) _ _ (le-ltb (s .head) (o .head) (omega arith)) ∙ if-false (eqb (s .head) (o .head)) _ _ (ne-eqb (s .head) (o .head) (λ z. omega arith)) in
+      let p = packed share in (p .0, ap (λ (x : Out (Option ObjIdx)). x .answer) (q ∙ c) ∙ p .1)
+    where
+      by-twin : (h : ℕ) (f : Option ℕ) → (k : ℕ) × (pack-shared (moved o s) h f (move o os s) r .answer ≡ Some (index k))
+      by-twin h None = (length (s .packed), refl)
+      by-twin h (Some k) = (k, refl)
+
+      packed : (share : Bool) → (k : ℕ) × (pack share (moved o s) (move o os s) r .answer ≡ Some (index k))
+      packed false = (length (s .packed), refl)
+      packed true = by-twin _ (twin (move o os s .memory) r _ _ (o .real) (s .packed))
+
 module _ (b : Beginning) (cs : List Call) where
   abbrev now : State
   now = at b cs
@@ -249,6 +267,7 @@ law-b b ok cs = record {
   names = λ share k o os e a since t. names-later b since (PopPack share ∷ cs) k (own (at b cs) o) (o .real) t
       (pop-closed (span b) (at b cs) (run-sound b cs) (run b cs .register) o os e share k (said b cs share k a) .names);
   shared = shared-so b cs ok;
+  given = λ share o os is l soft going. let g = given (at b cs) (run b cs .register) share o os is l soft going in (g .0, ap Number (g .1));
   unshared = λ k a. unshared (at b cs) (run b cs .register) k (said b cs false k a);
   stays = λ c same k t ne l. entered-stays b c cs same k t ne l;
 }

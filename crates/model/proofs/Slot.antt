@@ -1,8 +1,7 @@
 -- Slots: open, packed and released ones are different, so there is one to each object. The register holds a pair for each slot at least.
-use mathlib.Core.Path.{_≡_, refl, sym, ap, subst, _∙_}
+use mathlib.Core.Path.{_≡_, refl, ap, _∙_}
 use mathlib.Core.List.{List, [], _∷_}
-use mathlib.Core.Bool.{Bool, true, false, cond}
-use mathlib.Core.Logic.{_⊎_, inl, inr}
+use mathlib.Core.Bool.{true, cond}
 use Prim.Native.Nat.{ℕ, suc, _+_, _≤_, _<_}
 use native.Mathlib.Omega.{arith}
 use lib.Dec.{ltb}
@@ -11,19 +10,19 @@ use Rattle.link.specs.declared.PoolIdx.{PoolIdx}
 use Rattle.register.specs.Pairs.{Pairs, struck}
 use Rattle.std.specs.declared.option.Option.{Option}
 use Rattle.std.specs.declared.option.Option.the-variants.{Some, None}
-use Rattle.std.proofs.shelf.Tests.{ltb-true, ltb-false, cond-both, cases-bool}
+use Rattle.std.proofs.shelf.Tests.{ltb-true, ltb-false, cond-both}
 use Rattle.model.specs.declared.limit.Limit.{Limit}
 use Rattle.model.specs.declared.limit.Limit.the-variants.{Memory, Register}
 use Rattle.model.specs.State.{State, Object, Pool, slot-free, slot-taken, slot-back, links-of}
 use Rattle.model.specs.Closing.{object-hash}
 use Rattle.model.specs.Rewinding.{Discarded, discard, cut-first}
 use Rattle.model.specs.New.{over-memory, checked, begun}
-use Rattle.model.specs.Run.{Call, Answer, Beginning, run, call}
+use Rattle.model.specs.Run.{Call, Answer, Beginning, run}
 use Rattle.model.specs.Moments.{at, depth, count}
 use Rattle.model.proofs.Split.{by-test}
-use Rattle.model.proofs.Number.{none-some}
 use Rattle.model.proofs.Last.{relent-length}
-use Rattle.model.proofs.Effect.{Relent, Effect, call-effect}
+use Rattle.model.proofs.Effect.{Effect}
+use Rattle.model.proofs.Change.{call-effect}
 use Rattle.model.proofs.Effect.Effect.{same, opens, links, orders, lends, closes, packs, packs-entered, shares, drops, drops-back, cuts, cuts-back, enters, strikes}
 
 -- a slot for each object and each released one

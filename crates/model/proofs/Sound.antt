@@ -1,37 +1,33 @@
 -- Packed objects lie one against the other up to the end of memory, and what a call but the ending writes lies below them.
-use mathlib.Core.Path.{_≡_, refl, sym, ap, subst, _∙_}
-use mathlib.Core.List.{List, [], _∷_, _++_}
-use mathlib.Core.Bool.{Bool, true, false, not, cond, _||_}
+use mathlib.Core.Path.{_≡_, refl, sym, subst, _∙_}
+use mathlib.Core.List.{List, [], _∷_}
+use mathlib.Core.Bool.{Bool, true, false}
 use mathlib.Core.Logic.{_⊎_, inl, inr}
-use Prim.Native.Nat.{ℕ, zero, suc, _+_, _-_, _≤_, _<_}
+use Prim.Native.Nat.{ℕ, _+_, _-_, _≤_}
 use native.Mathlib.Omega.{arith}
 use lib.Dec.{eqb, ltb}
 use lib.ListN.{length, drop, replicate, length-replicate}
 use Rattle.cursor.specs.declared.flags.SerializeErrorFlags.{SerializeErrorFlags}
-use Rattle.cursor.specs.Flags.{other, joined, hard}
+use Rattle.cursor.specs.Flags.{hard}
 use Rattle.link.specs.declared.Link.{Link}
 use Rattle.link.specs.declared.ObjIdx.{ObjIdx}
 use Rattle.link.specs.declared.OffsetWhence.{OffsetWhence}
-use Rattle.register.specs.Pairs.{Pairs}
-use Rattle.scalar.specs.Place.{part, write}
+use Rattle.scalar.specs.Place.{write}
 use Rattle.std.specs.Options.{valueOr}
 use Rattle.std.specs.declared.option.Option.{Option}
-use Rattle.std.specs.declared.option.Option.the-variants.{Some, None}
 use Rattle.std.specs.declared.result.Result.{Result}
 use Rattle.std.specs.declared.result.Result.the-variants.{Err}
-use Rattle.std.proofs.shelf.Tests.{ltb-false, eqb-true, eqb-false, or-parts, both-ways, cases-bool}
-use Rattle.model.specs.declared.snapshot.Snapshot.{Snapshot}
-use Rattle.model.specs.State.{State, Object, Pool, flag, with-flags, with-memory, with-opened}
-use Rattle.model.specs.Declining.{guarded, silent, no-tests, setting, set-err, flagged, idle}
+use Rattle.std.proofs.shelf.Tests.{ltb-false}
+use Rattle.model.specs.State.{State, Object, Pool, flag, with-memory, with-opened}
+use Rattle.model.specs.Declining.{guarded, silent, no-tests, setting, set-err}
 use Rattle.model.specs.Opening.{opening, push-tests, push, start-tests, start-serialize}
 use Rattle.model.specs.Writing.{advancing, room-tests, allocating, allocate-size, writing, embed-bytes, assign-tests, assigning, copy-assign, count-tests, assigning-count, check-assign}
 use Rattle.model.specs.Linking.{extend, extend-virtual, link-tests, linking, add-link, virtual-tests, linking-virtual, add-virtual-link, lend, virtual-to, open-links, child-tests, ordering, repacking, repack-tests, repack-last}
-use Rattle.model.specs.Closing.{Out, moved, move, pack-new, pack-twin, pack-shared, pack, twin, linkless, close, close-first, pop-pack}
-use Rattle.model.specs.Rewinding.{Discarded, discard, rewound, rewind, discard-first, pop-discard, open-slot, same-slot, cut-first, cut, revert-snapshot}
+use Rattle.model.specs.Rewinding.{cut-first}
 use Rattle.model.specs.Stacking.{Stacked, lowest}
 use Rattle.model.proofs.Split.{None-hold, by-test, refuse-by, guarded-keeps}
-use Rattle.model.proofs.Flag.{hard-joined, zero-flags}
-use Rattle.model.proofs.Memory.{length-write, drop-write, length-part}
+use Rattle.model.proofs.Flag.{hard-joined}
+use Rattle.model.proofs.Memory.{length-write, drop-write}
 
 -- the tails that open objects recorded lie in memory
 abbrev pub Tails : ℕ → List Object → Type 0
@@ -68,7 +64,7 @@ under-end n s d = let l : lowest n (s .packed) ≤ n = lowest-le n (s .packed) (
 pub flag-sound : (n : ℕ) (s : State) (f : SerializeErrorFlags) → Sound-state n s → Sound-state n (flag s f)
 flag-sound n s f d = record { sized = d .sized; below = d .below; stacked = d .stacked; under = d .under; meets = elim (d .meets) [ inl h ↦ inl (hard-joined (s .flags) f h) | inr e ↦ inr e ]; tails = d .tails }
 
-flag-good : (n : ℕ) (s₀ s : State) (f : SerializeErrorFlags) → Good n s₀ s → Good n s₀ (flag s f)
+pub flag-good : (n : ℕ) (s₀ s : State) (f : SerializeErrorFlags) → Good n s₀ s → Good n s₀ (flag s f)
 flag-good n s₀ s f g = (flag-sound n s f (g .0), g .1, g .2)
 
 pub with-tails : (n : ℕ) (s : State) (os : List Object) (p : Pool) → Sound-state n s → Tails n os → Sound-state n (with-opened s os p)
@@ -82,17 +78,17 @@ virtual-tails : (n : ℕ) (k : ObjIdx) (os : List Object) → Tails n os → Tai
 virtual-tails n k [] ts = ts
 virtual-tails n k (_∷_ o os) ts = ts
 
-cut-tails : (n a b : ℕ) (os : List Object) → Tails n os → Tails n (cut-first a b os)
+pub cut-tails : (n a b : ℕ) (os : List Object) → Tails n os → Tails n (cut-first a b os)
 cut-tails n a b [] ts = ts
 cut-tails n a b (_∷_ o os) ts = ts
 
 -- ---- virtual links lent to a packed object
 
-lend-lowest : (n : ℕ) (vs : List Link) (k : ℕ) (ps : List Object) → lowest n (lend vs k ps) ≡ lowest n ps
+pub lend-lowest : (n : ℕ) (vs : List Link) (k : ℕ) (ps : List Object) → lowest n (lend vs k ps) ≡ lowest n ps
 lend-lowest n vs k [] = refl
 lend-lowest n vs k (_∷_ p ps) = by-test (eqb (length ps) k) _ _ (λ x. lowest n x ≡ p .head) (λ e. refl) (λ e. refl)
 
-lend-stacked : (n : ℕ) (vs : List Link) (k : ℕ) (ps : List Object) → Stacked n ps → Stacked n (lend vs k ps)
+pub lend-stacked : (n : ℕ) (vs : List Link) (k : ℕ) (ps : List Object) → Stacked n ps → Stacked n (lend vs k ps)
 lend-stacked n vs k [] st = st
 lend-stacked n vs k (_∷_ p ps) st = by-test (eqb (length ps) k) _ _ (Stacked n) (λ e. st) (λ e. (st .0, st .1 ∙ sym (lend-lowest n vs k ps), lend-stacked n vs k ps (st .2)))
 
@@ -188,119 +184,3 @@ module _ (n : ℕ) (s : State) (sound : Sound-state n s) where
 
   pub repack-good : (k : ObjIdx) → Good n s (repack-last k s .0)
   repack-good k = keeps repack-tests Err (λ s. repacking k (open-links s) s) (λ no. repacking-good n s k (open-links s) s start)
-
--- ---- closing
-
-pub idle-hard : (s : State) → idle s ≡ false → hard (s .flags) ≡ false
-idle-hard s e = or-parts (s .ended) (hard (s .flags)) e .1
-
-pub not-hard : (n : ℕ) (s : State) → Sound-state n s → hard (s .flags) ≡ false → s .tail ≡ lowest n (s .packed)
-not-hard n s d h = elim (d .meets) [ inl p ↦ absurd (both-ways (hard (s .flags)) h p) | inr e ↦ e ]
-
-module _ (n : ℕ) (s : State) (sound : Sound-state n s) (soft : hard (s .flags) ≡ false) (o : Object) (os : List Object) (over : ltb (s .head) (o .head) ≡ false) (ts : Tails n os) where
-  edge-is : s .tail ≡ lowest n (s .packed)
-  edge-is = not-hard n s sound soft
-
-  pub size-is : length (part (s .memory) (o .head) (s .head)) ≡ s .head - o .head
-  size-is = let u : s .tail ≤ n = under-end n s sound in length-part (s .memory) (o .head) (s .head) (omega (arith, sound .sized, sound .below))
-
-  fits : s .tail - (s .head - o .head) + length (part (s .memory) (o .head) (s .head)) ≤ s .tail
-  fits = rw size-is (omega (arith, sound .below))
-
-  fits-all : s .tail - (s .head - o .head) + length (part (s .memory) (o .head) (s .head)) ≤ length (s .memory)
-  fits-all = let u : s .tail ≤ n = under-end n s sound in omega (arith, sound .sized, fits)
-
-  pub moved-good : Good n s (move o os s)
-  moved-good =
-      (record { sized = length-write (s .memory) _ _ fits-all ∙ sound .sized; below = omega (arith, ltb-false (s .head) (o .head) over, sound .below); stacked = sound .stacked; under = sound .under; meets = sound .meets; tails = ts }, drop-write (s .memory) _ _ (s .tail) fits fits-all, refl)
-
-  pub new-good : (s .head ≡ o .head → ⊥) → Good n s (pack-new (moved o s) (move o os s))
-  new-good ne =
-      let l = ltb-false (s .head) (o .head) over in
-      (record { sized = moved-good .0 .sized; below = omega (arith, sound .below); stacked = (omega (arith, sound .below), edge-is, sound .stacked); under = omega arith; meets = inr refl; tails = ts }, moved-good .1, refl)
-
-  twin-good : (k : ℕ) → Good n s (pack-twin (moved o s) k (move o os s))
-  twin-good k =
-      (record { sized = moved-good .0 .sized; below = moved-good .0 .below; stacked = lend-stacked n (o .virtual) k (s .packed) (sound .stacked); under = rw lend-lowest (sound .under); meets = inr (edge-is ∙ sym (lend-lowest n (o .virtual) k (s .packed))); tails = ts }, moved-good .1, refl)
-
-  shared-good : (ne : s .head ≡ o .head → ⊥) (h : ℕ) (k : Option ℕ) (r : Pairs) → Good n s (pack-shared (moved o s) h k (move o os s) r .state)
-  shared-good ne h None r = new-good ne
-  shared-good ne h (Some k) r = twin-good k
-
-  pack-good : (ne : s .head ≡ o .head → ⊥) (share : Bool) (r : Pairs) → Good n s (pack share (moved o s) (move o os s) r .state)
-  pack-good ne false r = new-good ne
-  pack-good ne true r = shared-good ne _ (twin (move o os s .memory) r _ _ (o .real) (s .packed)) r
-
-close-good : (n : ℕ) (s : State) (sound : Sound-state n s) → hard (s .flags) ≡ false → (share : Bool) (o : Object) (os : List Object) (ts : Tails n os) (r : Pairs) → Good n s (close share o os s r .state)
-close-good n s sound soft share o os ts r =
-    let w : Good n s (with-opened s os (s .pool)) = (with-tails n s os (s .pool) sound ts, refl, refl) in
-    by-test (ltb (s .head) (o .head)) _ _ (λ (x : Out (Option ObjIdx)). Good n s (x .state)) (λ e. flag-good n s (with-opened s os (s .pool)) other w)
-    (λ over. by-test (eqb (s .head) (o .head)) _ _ (λ (x : Out (Option ObjIdx)). Good n s (x .state))
-    (λ e. by-test (linkless o) _ _ (λ (x : Out (Option ObjIdx)). Good n s (x .state)) (λ e. w) (λ e. flag-good n s (with-opened s os (s .pool)) other w))
-    (λ ne. pack-good n s sound soft o os over ts (eqb-false (s .head) (o .head) ne) share r))
-
-pub pop-pack-good : (n : ℕ) (s : State) (sound : Sound-state n s) (share : Bool) (r : Pairs) → Good n s (pop-pack share s r .state)
-pop-pack-good n s sound share r =
-    by-test (idle s) _ _ (λ (x : Out (Option ObjIdx)). Good n s (x .state)) (λ e. (sound, refl, refl)) (λ e. first (idle-hard s e) (s .opened) (sound .tails))
-  where
-    first : hard (s .flags) ≡ false → (os : List Object) → Tails n os → Good n s (close-first share os s r .state)
-    first h [] ts = (sound, refl, refl)
-    first h (_∷_ o os) ts = close-good n s sound h share o os (ts .1) r
-
--- ---- rewinding
-
-pub discard-stacked : (m : List ℕ) (n t : ℕ) (ps : List Object) (p : Pool) (r : Pairs) → t ≤ n → Stacked n ps →
-    Stacked n (discard m t ps p r .left) × (t ≤ lowest n (discard m t ps p r .left))
-discard-stacked m n t [] p r l st = (tt, l)
-discard-stacked m n t (_∷_ o os) p r l st =
-    by-test (ltb (o .head) t) _ _ (λ (x : Discarded). Stacked n (x .left) × (t ≤ lowest n (x .left)))
-    (λ e. discard-stacked m n t os _ _ l (st .2))
-    (λ e. (st, ltb-false (o .head) t e))
-
-pub edge-lowest : (n : ℕ) (m : List ℕ) (ps : List Object) → length m ≡ n → (elim ps [ [] ↦ length m | _∷_ p qs ↦ p .head ]) ≡ lowest n ps
-edge-lowest n m [] e = e
-edge-lowest n m (_∷_ p ps) e = refl
-
--- s may have had its flags and links put back: tail meets the lowest packed object
-module _ (n : ℕ) (s₀ s : State) (g : Good n s₀ s) (r : Pairs) (h t : ℕ) (l : t ≤ n) where
-  rewound-good : flagged s ≡ false → ltb (s .head) h ≡ false → ltb t (s .tail) ≡ false → Good n s₀ (rewound h t s r .state)
-  rewound-good z a b =
-      let d = discard-stacked (s .memory) n t (s .packed) (s .pool) r l (g .0 .stacked) in
-      let e = edge-lowest n (s .memory) (discard (s .memory) t (s .packed) (s .pool) r .left) (g .0 .sized) in (
-        record {
-          sized = g .0 .sized;
-          below = omega (arith, ltb-false (s .head) h a, ltb-false t (s .tail) b, g .0 .below);
-          stacked = d .0;
-          under = d .1;
-          meets = meets-so _ (discard (s .memory) t (s .packed) (s .pool) r .left) e;
-          tails = g .0 .tails;
-        },
-        g .1,
-        g .2,
-      )
-    where
-      meets-so : (x : ℕ) (ps : List Object) → x ≡ lowest n ps → (hard (cond (eqb x t) (s .flags) (joined (s .flags) other)) ≡ true) ⊎ (t ≡ lowest n ps)
-      meets-so x ps e = elim (cases-bool (eqb x t)) [
-        | inl y ↦ inr (sym (eqb-true x t y) ∙ e)
-        | inr y ↦ inl (rw (y, zero-flags s z) refl)
-      ]
-
-  rewind-good : Good n s₀ (rewind h t s r .state)
-  rewind-good = by-test (flagged s || (ltb (s .head) h || ltb t (s .tail))) _ _ (λ (x : Out (Unit {0})). Good n s₀ (x .state)) (λ e. g)
-      (λ e. let p = or-parts (flagged s) (ltb (s .head) h || ltb t (s .tail)) e in let q = or-parts (ltb (s .head) h) (ltb t (s .tail)) (p .1) in rewound-good (p .0) (q .0) (q .1))
-
-pub pop-discard-good : (n : ℕ) (s : State) → Sound-state n s → (r : Pairs) → Good n s (pop-discard s r .state)
-pop-discard-good n s sound r =
-    by-test (idle s) _ _ (λ (x : Out (Unit {0})). Good n s (x .state)) (λ e. (sound, refl, refl)) (λ e. first (s .opened) (sound .tails))
-  where
-    first : (os : List Object) → Tails n os → Good n s (discard-first os s r .state)
-    first [] t = (sound, refl, refl)
-    first (_∷_ o os) t = rewind-good n s (with-opened s os (s .pool)) (with-tails n s os (s .pool) sound (t .1), refl, refl) r (o .head) (o .tail) (t .0)
-
-pub revert-good : (n : ℕ) (s : State) → Sound-state n s → (p : Snapshot) (r : Pairs) → Good n s (revert-snapshot p s r .state)
-revert-good n s sound p r =
-    by-test (idle s || (not (same-slot (p .current) (open-slot s)) || ltb (length (s .memory)) (p .tail))) _ _ (λ (x : Out (Unit {0})). Good n s (x .state)) (λ e. (sound, refl, refl))
-    (λ e. let a = or-parts (idle s) _ e in let b = or-parts (not (same-slot (p .current) (open-slot s))) (ltb (length (s .memory)) (p .tail)) (a .1) in
-    rewind-good n s (cut (p .«num_real_links») (p .«num_virtual_links») (with-flags s (p .errors)))
-    (record { sized = sound .sized; below = sound .below; stacked = sound .stacked; under = sound .under; meets = inr (not-hard n s sound (idle-hard s (a .0))); tails = cut-tails n (p .«num_real_links») (p .«num_virtual_links») (s .opened) (sound .tails) }, refl, refl)
-    r (p .head) (p .tail) (omega (arith, sound .sized, ltb-false (length (s .memory)) (p .tail) (b .1))))

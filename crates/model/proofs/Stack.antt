@@ -1,9 +1,9 @@
 -- The law's first part: where packed objects lie, after every run.
 use mathlib.Core.Path.{_≡_, refl, sym, ap, _∙_}
 use mathlib.Core.List.{List, [], _∷_}
-use mathlib.Core.Bool.{Bool, true, false}
-use mathlib.Core.Logic.{_⊎_, inl, inr, _≢_}
-use Prim.Native.Nat.{ℕ, _≤_, _<_}
+use mathlib.Core.Bool.{false}
+use mathlib.Core.Logic.{inr, _≢_}
+use Prim.Native.Nat.{ℕ, _≤_}
 use native.Mathlib.Nat.{le-of-eq}
 use native.Mathlib.Omega.{arith}
 use lib.Dec.{eqb}
@@ -22,8 +22,9 @@ use Rattle.model.specs.Stacking.{Stacked, lowest, Law-a}
 use Rattle.model.proofs.Split.{by-test}
 use Rattle.model.proofs.Memory.{part-kept}
 use Rattle.model.proofs.Number.{none-some, some-inj}
-use Rattle.model.proofs.Sound.{Sound, Sound-state, Kept, Good, set-good, push-good, start-good, allocate-good, embed-good, assign-good, check-good, link-good, virtual-good, repack-good, pop-pack-good, pop-discard-good, revert-good}
-use Rattle.model.proofs.End.{end-sound, end-quiet, end-stays}
+use Rattle.model.proofs.Sound.{Sound-state, Kept, Good, set-good, push-good, start-good, allocate-good, embed-good, assign-good, check-good, link-good, virtual-good, repack-good}
+use Rattle.model.proofs.Packing.{pop-pack-good, pop-discard-good, revert-good}
+use Rattle.model.proofs.Finish.{end-sound, end-quiet, end-stays}
 
 -- what every call keeps
 pub record Called (n : ℕ) (c : Call) (s s′ : State) : Type 0 where

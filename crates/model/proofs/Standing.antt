@@ -1,8 +1,7 @@
 -- Hard flags never go away, and an ended serializer does not change.
-use mathlib.Core.Path.{_≡_, refl, sym, ap, subst, _∙_}
+use mathlib.Core.Path.{_≡_, refl, sym, ap, _∙_}
 use mathlib.Core.List.{List, [], _∷_, _++_}
 use mathlib.Core.Bool.{Bool, true, false, not, cond, _||_}
-use mathlib.Core.Logic.{_⊎_, inl, inr}
 use lib.Dec.{eqb, ltb}
 use lib.Bits.{or-zero-r}
 use lib.ListN.{length}
@@ -16,20 +15,20 @@ use Rattle.std.specs.declared.option.Option.{Option}
 use Rattle.std.specs.declared.option.Option.the-variants.{Some, None}
 use Rattle.std.specs.declared.result.Result.{Result}
 use Rattle.std.specs.declared.result.Result.the-variants.{Err}
-use Rattle.std.proofs.shelf.Tests.{and-parts, or-left, or-right, or-parts, both-ways, cases-bool}
+use Rattle.std.proofs.shelf.Tests.{and-parts, or-left, or-right, both-ways}
 use Rattle.model.specs.declared.snapshot.Snapshot.{Snapshot}
-use Rattle.model.specs.State.{State, Object}
+use Rattle.model.specs.State.{State}
 use Rattle.model.specs.Declining.{guarded, silent, no-tests, setting, flagged, nothing-open, idle}
 use Rattle.model.specs.Opening.{opening, push-tests, start-tests}
 use Rattle.model.specs.Writing.{room-tests, allocating, writing, assign-tests, assigning, count-tests, assigning-count}
 use Rattle.model.specs.Linking.{link-tests, linking, virtual-tests, linking-virtual, open-links, child-tests, ordering, repacking, repack-tests}
-use Rattle.model.specs.Closing.{Out, pop-pack}
-use Rattle.model.specs.Rewinding.{pop-discard, open-slot, same-slot, revert-snapshot}
-use Rattle.model.specs.Ending.{end-over, end-serialize}
+use Rattle.model.specs.Closing.{Out}
+use Rattle.model.specs.Rewinding.{open-slot, same-slot, revert-snapshot}
+use Rattle.model.specs.Ending.{end-serialize}
 use Rattle.model.specs.Run.{Call, Answer, Beginning, run, call, taken-at, revert-to}
 use Rattle.model.specs.Run.Call.{SetErr, Start, Push, Allocate, Pad, Embed, Assign, CheckAssign, AddLink, AddVirtual, Repack, PopPack, PopDiscard, Snap, Revert, RevertForeign, End, Read, OwnerEnter, OwnerStrike}
 use Rattle.model.specs.Moments.{at}
-use Rattle.model.specs.Standing.{Stands, Standing}
+use Rattle.model.specs.Standing.{Standing}
 use Rattle.model.proofs.Split.{by-test, if-true, refuse-by, guarded-by}
 use Rattle.model.proofs.Flag.{hard-joined}
 

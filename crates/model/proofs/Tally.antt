@@ -2,30 +2,30 @@
 use mathlib.Core.Path.{_≡_, refl, sym, ap, subst, _∙_}
 use mathlib.Core.List.{List, [], _∷_}
 use mathlib.Core.Bool.{Bool, true, false, cond}
-use mathlib.Core.Logic.{_⊎_, inl, inr}
-use Prim.Native.Nat.{ℕ, suc, _+_, _-_, _≤_, _<_}
+use mathlib.Core.Logic.{inl, inr}
+use Prim.Native.Nat.{ℕ, _+_, _≤_}
 use native.Mathlib.Omega.{arith}
 use lib.Dec.{eqb, ltb}
 use lib.ListN.{length, drop}
 use Rattle.scalar.specs.Place.{part}
-use Rattle.register.specs.Pairs.{Pairs, same-pair, fits, entered, struck, Counted}
-use Rattle.std.proofs.shelf.Tests.{eqb-true, eqb-false, both-ways, cases-bool, cond-true, cond-false}
+use Rattle.register.specs.Pairs.{Pairs, same-pair, entered, struck, Counted}
+use Rattle.std.proofs.shelf.Tests.{eqb-true, eqb-false, both-ways, cases-bool}
 use Rattle.model.specs.State.{State, Object, Pool, slot-back, links-of}
 use Rattle.model.specs.Closing.{hash, object-hash, moved}
 use Rattle.model.specs.Rewinding.{Discarded, discard}
-use Rattle.model.specs.Run.{Call, Answer, Beginning, run, call}
-use Rattle.model.specs.Moments.{at, span, count, Role, role}
-use Rattle.model.specs.Moments.Role.{Enters}
+use Rattle.model.specs.Run.{Call, Answer, Beginning, run}
+use Rattle.model.specs.Moments.{at, span, count, role}
 use Rattle.model.specs.Stacking.{Stacked, lowest}
 use Rattle.model.specs.Sharing.{entry, entries}
 use Rattle.model.proofs.Split.{by-test}
 use Rattle.model.proofs.Memory.{part-kept}
-use Rattle.model.proofs.Sound.{Sound, Sound-state, Kept}
-use Rattle.model.proofs.Stack.{Called, run-sound, run-called}
-use Rattle.model.proofs.Pair.{Entering, entering, same-pair-is, other-pair, has-entered, entered-has, has-struck, entered-count, counted-entered, counted-struck, held-counts}
+use Rattle.model.proofs.Sound.{Sound-state}
+use Rattle.model.proofs.Stack.{run-sound, run-called}
+use Rattle.model.proofs.Pair.{entering, same-pair-is, other-pair, has-entered, entered-has, has-struck, entered-count, counted-entered, counted-struck, held-counts}
 use Rattle.model.proofs.Pair.Entering.{held, joins, full}
 use Rattle.model.proofs.Last.{relent-length}
-use Rattle.model.proofs.Effect.{Relent, Effect, call-effect}
+use Rattle.model.proofs.Effect.{Relent, Effect}
+use Rattle.model.proofs.Change.{call-effect}
 use Rattle.model.proofs.Effect.Effect.{same, opens, links, orders, lends, closes, packs, packs-entered, shares, drops, drops-back, cuts, cuts-back, enters, strikes}
 
 -- ---- how many packed objects are entered

@@ -1,25 +1,23 @@
 -- Where each open or packed object, and each of its links, came from over one call.
 use mathlib.Core.Path.{_≡_, refl, sym, ap, subst, _∙_}
 use mathlib.Core.List.{List, [], _∷_, _++_}
-use mathlib.Core.Bool.{Bool, true, false}
-use mathlib.Core.Logic.{_⊎_, inl, inr}
-use Prim.Native.Nat.{ℕ, suc, _+_, _≤_, _<_}
+use mathlib.Core.Logic.{inl, inr}
+use Prim.Native.Nat.{ℕ, suc, _≤_}
 use native.Mathlib.Omega.{arith}
 use lib.Dec.{eqb}
-use lib.ListN.{length, take}
+use lib.ListN.{length}
 use Rattle.link.specs.declared.Link.{Link}
 use Rattle.register.specs.Pairs.{Pairs}
-use Rattle.std.specs.declared.option.Option.{Option}
-use Rattle.std.specs.declared.option.Option.the-variants.{Some, None}
+use Rattle.std.specs.declared.option.Option.the-variants.{Some}
 use Rattle.std.proofs.shelf.Tests.{eqb-true, eqb-false, cases-bool}
 use Rattle.model.specs.State.{State, Object, Pool, numbered}
 use Rattle.model.specs.Closing.{moved}
-use Rattle.model.specs.Rewinding.{discard, cut-first}
+use Rattle.model.specs.Rewinding.{cut-first}
 use Rattle.model.specs.Reading.{nth}
 use Rattle.model.specs.Run.{Call, Answer}
 use Rattle.model.specs.Moments.{count}
-use Rattle.model.proofs.Number.{none-some, some-inj, numbered-is, numbered-at, numbered-there, numbered-below, numbered-first, nth-take}
-use Rattle.model.proofs.Last.{Persist, persist-same, relent-length, relent-still, discard-fewer, discard-persist}
+use Rattle.model.proofs.Number.{some-inj, numbered-is, numbered-at, numbered-there, numbered-below, numbered-first, nth-take}
+use Rattle.model.proofs.Last.{Persist, relent-length, relent-still, discard-fewer, discard-persist}
 use Rattle.model.proofs.Effect.{Relent, Adds, Effect, opened-in, with-link, with-virtual}
 use Rattle.model.proofs.Effect.Effect.{same, opens, links, orders, lends, closes, packs, packs-entered, shares, drops, drops-back, cuts, cuts-back, enters, strikes}
 use Rattle.model.proofs.Nest.{cut-level}

@@ -1,8 +1,8 @@
 -- The search for an equal object finds the least that is entered, and misses none.
 use mathlib.Core.Path.{_≡_, refl, sym, ap, subst, _∙_}
 use mathlib.Core.List.{List, [], _∷_}
-use mathlib.Core.Bool.{Bool, true, false, not, cond, _&&_}
-use mathlib.Core.Logic.{_⊎_, inl, inr}
+use mathlib.Core.Bool.{Bool, true, false, cond}
+use mathlib.Core.Logic.{inl, inr}
 use Prim.Native.Nat.{ℕ, _<_}
 use native.Mathlib.Omega.{arith}
 use lib.Dec.{eqb}
@@ -21,7 +21,7 @@ use Rattle.std.specs.declared.option.Option.the-variants.{Some, None}
 use Rattle.std.proofs.shelf.Tests.{eqb-true, eqb-false, eq-eqb, and-parts, and-from, both-ways, cases-bool}
 use Rattle.model.specs.State.{Object, index, numbered}
 use Rattle.model.specs.Closing.{same-bytes, same-mark, same-link, same-links, matches, or-else, twin}
-use Rattle.model.proofs.Number.{none-some, some-inj, numbered-here, numbered-at, numbered-there, numbered-below, numbered-first}
+use Rattle.model.proofs.Number.{none-some, numbered-here, numbered-there, numbered-below, numbered-first}
 
 -- ---- the tests of equality
 

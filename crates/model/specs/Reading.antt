@@ -1,7 +1,7 @@
 -- The calls that only read: flags, lengths, bytes, objects, links, and the output.
 use mathlib.Core.List.{List, [], _∷_, _++_}
-use mathlib.Core.Bool.{Bool, true, false, not}
-use Prim.Native.Nat.{ℕ, zero, suc, _+_, _-_}
+use mathlib.Core.Bool.{Bool, true, false}
+use Prim.Native.Nat.{ℕ, zero, suc, _-_}
 use lib.Dec.{ltb}
 use lib.ListN.{length, take, drop}
 use Rattle.cursor.specs.declared.flags.SerializeErrorFlags.{SerializeErrorFlags}
@@ -60,7 +60,7 @@ value-at reads width at s = read reads width (s .memory) at
 abbrev pub output : State → List ℕ
 output s = elim (flagged s) [ true ↦ [] | false ↦ take (s .head) (s .memory) ++ drop (s .tail) (s .memory) ]
 
--- the count, or none if the memory handed over is too short
+-- all of it, or none if there is less room
 abbrev pub copied : ℕ → State → Option (List ℕ)
 copied room s = elim (ltb room (length (output s))) [ true ↦ None | false ↦ Some (output s) ]
 
@@ -69,7 +69,7 @@ abbrev pub copied-to : List ℕ → Option (List ℕ) → List ℕ
 copied-to m None = m
 copied-to m (Some bs) = write m 0 bs
 
--- what the memory handed over holds then, and the count answered
+-- what the memory handed over holds then, and how many bytes were written
 abbrev pub copy-bytes : List ℕ → State → List ℕ × Option ℕ
 copy-bytes m s = (copied-to m (copied (length m) s), mapped length (copied (length m) s))
 

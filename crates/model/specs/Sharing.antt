@@ -4,6 +4,7 @@ use mathlib.Core.List.{List, [], _∷_, _++_}
 use mathlib.Core.Bool.{Bool, true, false}
 use mathlib.Core.Logic.{_⊎_, _≢_}
 use Prim.Native.Nat.{ℕ, _+_, _≤_, _<_}
+use Rattle.cursor.specs.Flags.{hard}
 use Rattle.link.specs.declared.Link.{Link}
 use Rattle.scalar.specs.Place.{part}
 use Rattle.std.specs.declared.option.Option.the-variants.{Some}
@@ -69,6 +70,9 @@ pub record Law-b (b : Beginning) (cs : List Call) : Type 0 where
       Names (at b (since ++ (PopPack share ∷ cs))) k (part (at b cs .memory) (o .head) (at b cs .head)) (o .real)
   pub shared : (k : ℕ) (o : Object) (os : List Object) → at b cs .opened ≡ o ∷ os → answered b (_∷_ (PopPack true) cs) ≡ Number (Some (index k)) →
       Shared b cs k (part (at b cs .memory) (o .head) (at b cs .head)) (o .real)
+  -- an object with bytes is given a number, unless a hard flag stands or the serializer is ended
+  pub given : (share : Bool) (o : Object) (os : List Object) → at b cs .opened ≡ o ∷ os → o .head < at b cs .head → hard (at b cs .flags) ≡ false → at b cs .ended ≡ false →
+      (k : ℕ) × (answered b (_∷_ (PopPack share) cs) ≡ Number (Some (index k)))
   -- without sharing the number is the count packed before
   pub unshared : (k : ℕ) → answered b (_∷_ (PopPack false) cs) ≡ Number (Some (index k)) → k ≡ count (at b cs)
   -- an entered object stays entered as long as its number stands, unless its owner strikes its own pair

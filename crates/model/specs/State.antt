@@ -2,7 +2,7 @@
 use mathlib.Core.List.{List, [], _∷_}
 use mathlib.Core.Bool.{Bool, true, false}
 use Prim.Native.Nat.{ℕ, suc, _+_, _-_}
-use lib.Dec.{ltb}
+use lib.Dec.{eqb, ltb}
 use lib.ListN.{length}
 use Rattle.cursor.specs.declared.flags.SerializeErrorFlags.{SerializeErrorFlags}
 use Rattle.cursor.specs.Flags.{joined}
@@ -48,7 +48,7 @@ index k = record { 0 = k }
 -- the packed object of a number, if there is one
 abbrev pub numbered : List Object → ℕ → Option Object
 numbered [] k = None
-numbered (_∷_ p ps) k = elim (lib.Dec.eqb (length ps) k) [ true ↦ Some p | false ↦ numbered ps k ]
+numbered (_∷_ p ps) k = elim (eqb (length ps) k) [ true ↦ Some p | false ↦ numbered ps k ]
 
 -- ---- slots and link cells
 

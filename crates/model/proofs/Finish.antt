@@ -1,9 +1,9 @@
 -- The ending keeps a state sound, and changes neither memory, objects nor register unless it ends the serializer.
-use mathlib.Core.Path.{_≡_, refl, sym, ap, _∙_}
+use mathlib.Core.Path.{_≡_, refl, sym, _∙_}
 use mathlib.Core.List.{List, [], _∷_}
-use mathlib.Core.Bool.{Bool, true, false, cond, _||_}
+use mathlib.Core.Bool.{true, false, _||_}
 use mathlib.Core.Logic.{_⊎_, inl, inr}
-use Prim.Native.Nat.{ℕ, _+_, _≤_}
+use Prim.Native.Nat.{ℕ, _+_}
 use lib.Dec.{eqb, ltb}
 use lib.ListN.{length}
 use Rattle.cursor.specs.Flags.{other, offset-overflow, contains}
@@ -19,7 +19,8 @@ use Rattle.model.specs.Closing.{Out, pop-pack}
 use Rattle.model.specs.Ending.{Field, fields, largest, put-field, put-fields, resolved, resolve, end-over, end-flagged, end-serialize}
 use Rattle.model.proofs.Split.{by-test}
 use Rattle.model.proofs.Memory.{length-write}
-use Rattle.model.proofs.Sound.{Sound, Sound-state, flag-sound, pop-pack-good}
+use Rattle.model.proofs.Sound.{Sound-state, flag-sound}
+use Rattle.model.proofs.Packing.{pop-pack-good}
 
 -- ---- soundness
 
@@ -70,7 +71,7 @@ resolved-ended : (o : Option (List Field)) (s : State) → resolved o s .ended �
 resolved-ended None s = refl
 resolved-ended (Some fs) s = put-ended fs s
 
-resolve-ended : (s : State) → resolve s .ended ≡ s .ended
+pub resolve-ended : (s : State) → resolve s .ended ≡ s .ended
 resolve-ended s = by-test (flagged s) _ _ (λ (x : State). x .ended ≡ s .ended) (λ e. refl)
     (λ e. by-test (nothing-open s) _ _ (λ (x : State). x .ended ≡ s .ended) (λ e. resolved-ended (fields s (s .packed)) s) (λ e. refl))
 
