@@ -8,6 +8,7 @@ use link::Link;
 use link::OffsetWhence;
 use objects::Extent;
 use objects::Objects;
+use objects::Which;
 
 // The place that an offset of the object `parent` is measured from. The output has none of the free bytes,
 // which lie before every packed object, so that its start counts as their number.
@@ -36,7 +37,7 @@ fn distance(place: usize, from: usize, bias: u32) -> Option<usize>
 pub(crate) fn offset(objects: &Objects, cursor: Cursor, parent: Extent, link: Link) -> Option<usize>
     ensures answer { λ r. ⌜ r ≡ offset-of (free cursor) (contents (now (objects .entry)) .packed) parent link ⌝ }
 {
-    match objects.object(link.objidx) {
+    match objects.outline(Which::Numbered(link.objidx)) {
         Some(child) => {
             let from = base_of(cursor, parent, link.whence);
             distance(child.extent.head, from, link.bias)

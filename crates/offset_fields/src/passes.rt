@@ -18,12 +18,13 @@ use link::ObjIdx;
 use links::LinkIterIterator;
 use objects::Extent;
 use objects::Objects;
+use objects::Which;
 
 // Whether each link of the object of a number, which lies at `parent`, has its offset.
 fn links_reach(objects: &Objects, cursor: Cursor, parent: Extent, number: ObjIdx) -> bool
     ensures answer { λ r. ⌜ r ≡ reaches (free cursor) (contents (now (objects .entry)) .packed) parent (real-of (numbered (contents (now (objects .entry)) .packed) (number .0))) ⌝ }
 {
-    for link in objects.real_links(number) {
+    for link in objects.real_links(Which::Numbered(number)) {
         if offset(objects, cursor, parent, link).is_none() {
             return false;
         }
@@ -34,7 +35,7 @@ fn links_reach(objects: &Objects, cursor: Cursor, parent: Extent, number: ObjIdx
 fn object_reaches(objects: &Objects, cursor: Cursor, number: ObjIdx) -> bool
     ensures answer { λ r. ⌜ r ≡ object-reaches (free cursor) (contents (now (objects .entry)) .packed) (numbered (contents (now (objects .entry)) .packed) (number .0)) ⌝ }
 {
-    match objects.object(number) {
+    match objects.outline(Which::Numbered(number)) {
         Some(parent) => links_reach(objects, cursor, parent.extent, number),
         None => true,
     }
@@ -83,7 +84,7 @@ fn put_links(
     ensures state { λ _. ⌜ ending (vec-items (now (memory .exit))) (now (flags .exit)) cursor (contents (now (objects .entry))) ≡ put-links (free cursor) (contents (now (objects .entry)) .packed) parent (real-of (numbered (contents (now (objects .entry)) .packed) (number .0))) (ending (vec-items (now (memory .entry))) (now (flags .entry)) cursor (contents (now (objects .entry)))) ⌝ }
     ensures len { λ _. ⌜ vec-len (now (memory .exit)) ≡ vec-len (now (memory .entry)) ⌝ }
 {
-    for link in objects.real_links(number) {
+    for link in objects.real_links(Which::Numbered(number)) {
         put_link(objects, cursor, memory, flags, parent, link);
     }
 }
@@ -98,7 +99,7 @@ fn put_object(
     ensures state { λ _. ⌜ ending (vec-items (now (memory .exit))) (now (flags .exit)) cursor (contents (now (objects .entry))) ≡ put-object (free cursor) (contents (now (objects .entry)) .packed) (numbered (contents (now (objects .entry)) .packed) (number .0)) (ending (vec-items (now (memory .entry))) (now (flags .entry)) cursor (contents (now (objects .entry)))) ⌝ }
     ensures len { λ _. ⌜ vec-len (now (memory .exit)) ≡ vec-len (now (memory .entry)) ⌝ }
 {
-    match objects.object(number) {
+    match objects.outline(Which::Numbered(number)) {
         Some(parent) => put_links(objects, cursor, memory, flags, parent.extent, number),
         None => {}
     }

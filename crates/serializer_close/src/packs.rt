@@ -17,6 +17,7 @@ use link::ObjIdx;
 use memory::move_part;
 use objects::Extent;
 use objects::Outline;
+use objects::Which;
 use register::Register;
 use serializer_state::SerializerState;
 
@@ -114,7 +115,7 @@ pub fn pop_pack<R: Register>(
     if s.idle() {
         return None;
     }
-    let Some(object) = s.objects.innermost() else {
+    let Some(object) = s.objects.outline(Which::Innermost) else {
         return None;
     };
     if s.cursor.head < object.extent.head {

@@ -15,6 +15,7 @@ use memory::hash_of;
 use memory::part_of;
 use memory::same_parts;
 use objects::Extent;
+use objects::Which;
 use register::Register;
 use serializer_state::SerializerState;
 
@@ -23,12 +24,14 @@ fn like(s: &SerializerState, number: ObjIdx, at: Extent) -> bool
     requires opened { ⌜ nothing-open (view (now s)) ≡ false ⌝ }
     ensures answer { λ r. ⌜ r ≡ like-numbered (view (now (s .entry))) (at .head) (at .tail) (number .0) ⌝ }
 {
-    let Some(other) = s.objects.object(number) else {
+    let Some(other) = s.objects.outline(Which::Numbered(number)) else {
         return false;
     };
     let theirs = part_of(&s.memory, other.extent.head, other.extent.tail);
     let ours = part_of(&s.memory, at.head, at.tail);
-    same_parts(theirs, ours) && s.objects.same_links(number)
+    same_parts(theirs, ours)
+        && s.objects
+            .same_links(Which::Innermost, Which::Numbered(number))
 }
 
 // The hash of the bytes at an extent and of the real links of the innermost object.
@@ -36,7 +39,7 @@ pub(crate) fn hash_at(s: &SerializerState, at: Extent) -> u64
     ensures answer { λ r. ⌜ r ≡ hashed (part (view (now (s .entry)) .memory) (at .head) (at .tail)) (real-of (first (view (now (s .entry)) .opened))) ⌝ }
 {
     let mut hasher = hash_of(part_of(&s.memory, at.head, at.tail));
-    s.objects.feed_innermost(&mut hasher);
+    s.objects.feed(Which::Innermost, &mut hasher);
     hasher.finish()
 }
 

@@ -5,6 +5,7 @@ ghost use Rattle.model.specs.Ending.{resolve, end-flagged};
 ghost use Rattle.model.specs.State.{with-ended};
 ghost use Rattle.serializer_state.specs.View.{view};
 use cursor::flags::SerializeErrorFlags;
+use objects::Which;
 use offset_fields::write_fields;
 use serializer_state::SerializerState;
 
@@ -12,7 +13,7 @@ use serializer_state::SerializerState;
 pub(crate) fn nothing_open(s: &SerializerState) -> bool
     ensures answer { λ r. ⌜ r ≡ nothing-open (view (now (s .entry))) ⌝ }
 {
-    s.objects.innermost().is_none()
+    s.objects.outline(Which::Innermost).is_none()
 }
 
 // Adds OTHER to an offset overflow.

@@ -12,6 +12,7 @@ use link::Link;
 use link::LinkWidth;
 use link::ObjIdx;
 use link::OffsetWhence;
+use objects::Which;
 use serializer_state::SerializerState;
 
 // The farthest that a field may start past its object's head.
@@ -81,7 +82,7 @@ pub fn add_link(
     if s.flags.in_error() {
         return Err(s.standing());
     }
-    let Some(object) = s.objects.innermost() else {
+    let Some(object) = s.objects.outline(Which::Innermost) else {
         return Err(s.flag(SerializeErrorFlags::SERIALIZE_ERROR_OTHER));
     };
     let Some(link) = link_in(

@@ -7,6 +7,7 @@ ghost use Rattle.serializer_link.specs.Order.{order as ordered, orders};
 use cursor::flags::SerializeErrorFlags;
 use link::Link;
 use link::ObjIdx;
+use objects::Which;
 use serializer_state::SerializerState;
 
 // Orders the child of a link before an object, unless it is that object: false where the child is not
@@ -32,7 +33,7 @@ fn order_all(
     ensures state { λ _. ⌜ view (now (s .exit)) ≡ repacking objidx (open-links (view (now (s .entry)))) (view (now (s .entry))) .0 ⌝ }
 {
     for i in 0..count {
-        let Some(link) = s.objects.open_link(i) else {
+        let Some(link) = s.objects.real_link(Which::Innermost, i) else {
             return Ok(());
         };
         if !order(s, link, objidx) {
@@ -51,7 +52,7 @@ pub fn repack_last(s: &mut SerializerState, objidx: ObjIdx) -> Result<(), Serial
     if s.ended {
         return Err(s.refusal());
     }
-    let Some(object) = s.objects.innermost() else {
+    let Some(object) = s.objects.outline(Which::Innermost) else {
         return Err(s.flag(SerializeErrorFlags::SERIALIZE_ERROR_OTHER));
     };
     order_all(s, objidx, object.num_real_links)

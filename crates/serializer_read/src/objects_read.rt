@@ -8,13 +8,14 @@ use crate::view::ObjectView;
 use link::Link;
 use link::ObjIdx;
 use memory::part_of;
+use objects::Which;
 use serializer_state::SerializerState;
 
 // The packed object of a number, if there is one.
 pub fn object(s: &SerializerState, number: ObjIdx) -> Option<ObjectView<'_>>
     ensures answer { λ r. ⌜ mapped seen-in r ≡ object-seen number (view (now (s .entry))) ⌝ }
 {
-    let Some(outline) = s.objects.object(number) else {
+    let Some(outline) = s.objects.outline(Which::Numbered(number)) else {
         return None;
     };
     Some(ObjectView {
@@ -37,12 +38,12 @@ pub fn packed_count(s: &SerializerState) -> usize
 pub fn real_link(s: &SerializerState, number: ObjIdx, i: usize) -> Option<Link>
     ensures answer { λ r. ⌜ r ≡ real-link number i (view (now (s .entry))) ⌝ }
 {
-    s.objects.real_link(number, i)
+    s.objects.real_link(Which::Numbered(number), i)
 }
 
 // The i-th virtual link of a packed object, from 0, if there is one.
 pub fn virtual_link(s: &SerializerState, number: ObjIdx, i: usize) -> Option<Link>
     ensures answer { λ r. ⌜ r ≡ virtual-link number i (view (now (s .entry))) ⌝ }
 {
-    s.objects.virtual_link(number, i)
+    s.objects.virtual_link(Which::Numbered(number), i)
 }

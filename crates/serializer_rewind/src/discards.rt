@@ -4,6 +4,7 @@ ghost use Rattle.model.specs.Rewinding.{pop-discard};
 ghost use Rattle.serializer_state.specs.View.{view};
 ghost use Rattle.serializer_rewind.specs.Left.{released};
 use crate::rewinds::rewind;
+use objects::Which;
 use register::Register;
 use serializer_state::SerializerState;
 
@@ -22,7 +23,7 @@ pub fn pop_discard<R: Register>(s: &mut SerializerState, register: &mut R)
     if s.idle() {
         return;
     }
-    let Some(object) = s.objects.innermost() else {
+    let Some(object) = s.objects.outline(Which::Innermost) else {
         return;
     };
     rewind(s, object.extent, register);

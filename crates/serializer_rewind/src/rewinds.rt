@@ -17,6 +17,7 @@ use link::ObjIdx;
 use memory::hash_of;
 use memory::part_of;
 use objects::Extent;
+use objects::Which;
 use register::Register;
 use serializer_state::SerializerState;
 
@@ -25,7 +26,7 @@ fn last_hash(s: &SerializerState, at: Extent) -> u64
     ensures answer { λ r. ⌜ r ≡ hashed (part (view (now (s .entry)) .memory) (at .head) (at .tail)) (real-of (first (view (now (s .entry)) .packed))) ⌝ }
 {
     let mut hasher = hash_of(part_of(&s.memory, at.head, at.tail));
-    s.objects.feed_last(&mut hasher);
+    s.objects.feed(Which::LastPacked, &mut hasher);
     hasher.finish()
 }
 
@@ -34,7 +35,7 @@ fn discard_below<R: Register>(s: &mut SerializerState, tail: usize, register: &m
     ensures state { λ _. ⌜ view (now (s .exit)) ≡ left-from tail (view (now (s .entry))) (R·Register .holds (now (register .entry))) ⌝ }
     ensures register { λ _. ⌜ R·Register .holds (now (register .exit)) ≡ discard (view (now (s .entry)) .memory) tail (view (now (s .entry)) .packed) (view (now (s .entry)) .pool) (R·Register .holds (now (register .entry))) .register ⌝ }
 {
-    while let Some(last) = s.objects.last_packed() {
+    while let Some(last) = s.objects.outline(Which::LastPacked) {
         if last.extent.head >= tail {
             return;
         }
@@ -49,7 +50,7 @@ fn discard_below<R: Register>(s: &mut SerializerState, tail: usize, register: &m
 fn edge_of(s: &SerializerState) -> usize
     ensures answer { λ r. ⌜ r ≡ edge (view (now (s .entry))) ⌝ }
 {
-    match s.objects.last_packed() {
+    match s.objects.outline(Which::LastPacked) {
         Some(last) => last.extent.head,
         None => s.memory.len(),
     }

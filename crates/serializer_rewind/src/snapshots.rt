@@ -8,6 +8,7 @@ use cursor::flags::SerializeErrorFlags;
 use link::PoolIdx;
 use model::snapshot::Snapshot;
 use objects::Extent;
+use objects::Which;
 use register::Register;
 use serializer_state::SerializerState;
 
@@ -17,7 +18,7 @@ fn innermost(s: &SerializerState) -> (Option<PoolIdx>, usize, usize)
     ensures real { λ r. ⌜ r .1 ≡ real-count (view (now (s .entry)) .opened) ⌝ }
     ensures ties { λ r. ⌜ r .2 ≡ virtual-count (view (now (s .entry)) .opened) ⌝ }
 {
-    match s.objects.innermost() {
+    match s.objects.outline(Which::Innermost) {
         Some(object) => (
             Some(object.slot),
             object.num_real_links,

@@ -7,6 +7,7 @@ ghost use Rattle.model.specs.Opening.{opening, push as pushed, start-serialize}
 ghost use Rattle.serializer_state.specs.View.{view};
 use cursor::flags::SerializeErrorFlags;
 use objects::Extent;
+use objects::Which;
 use serializer_state::SerializerState;
 
 // Opens an object that records head and tail: false where no slot is free.
@@ -42,7 +43,7 @@ pub fn push(s: &mut SerializerState) -> Result<(), SerializeErrorFlags>
 fn none_open(s: &SerializerState) -> bool
     ensures answer { λ r. ⌜ r ≡ nothing-open (view (now (s .entry))) ⌝ }
 {
-    s.objects.innermost().is_none()
+    s.objects.outline(Which::Innermost).is_none()
 }
 
 // Opens the first object: declined while one is open.

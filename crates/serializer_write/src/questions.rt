@@ -3,6 +3,7 @@ ghost use mathlib.Core.Path.{_≡_};
 ghost use Rattle.model.specs.Reading.{error as flags-of, in-error, successful as is-successful, ran-out-of-room, has-offset-overflow, only-offset-overflow, only-overflow, open-length, allocated as allocated-of};
 ghost use Rattle.serializer_state.specs.View.{view};
 use cursor::flags::SerializeErrorFlags;
+use objects::Which;
 use serializer_state::SerializerState;
 
 // The flags that stand.
@@ -62,7 +63,7 @@ pub fn allocated(s: &SerializerState) -> usize
 pub fn length(s: &SerializerState) -> usize
     ensures answer { λ r. ⌜ r ≡ open-length (view (now (s .entry))) ⌝ }
 {
-    match s.objects.innermost() {
+    match s.objects.outline(Which::Innermost) {
         Some(object) => s.cursor.head.saturating_sub(object.extent.head),
         None => 0,
     }

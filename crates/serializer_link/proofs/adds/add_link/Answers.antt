@@ -18,7 +18,7 @@ pub returns-in-rest-link-in : need.returns-in-rest-link-in
 returns-in-rest-link-in c =
     let a = c .args in
     let v = view (a .s .now) in
-    let o = inner v (c .in-Some .object) (sym (c .innermost .ensures .answer) ∙ c .in-Some .is) in
+    let o = inner v (c .in-Some .object) (sym (c .outline .ensures .answer) ∙ c .in-Some .is) in
     let e = sym (unfit-declined (a .from) (a .to) (a .objidx) (a .whence) (a .bias) (a .is-signed) v (c .if-s .left) (sym (c .if-in-error .ensures tt .answer)) (c .in-Some .object .extent .head) (o .some) (o .at)
     (sym (c .link-in .ensures .answer) ∙ c .in-rest-link-in .is)) in
     record {
@@ -30,7 +30,7 @@ pub returns-then-not-add-real : need.returns-then-not-add-real
 returns-then-not-add-real c =
     let a = c .args in
     let v = view (a .s .now) in
-    let o = inner v (c .in-Some .object) (sym (c .innermost .ensures .answer) ∙ c .in-Some .is) in
+    let o = inner v (c .in-Some .object) (sym (c .outline .ensures .answer) ∙ c .in-Some .is) in
     let same = c .if-not-add-real .ensures tt .state in
     let full : false ≡ cell-free (v .pool) = c .if-not-add-real .ensures tt .answer ∙ ap (λ (n : Bool). not n && cell-free (v .pool)) (o .some) in
     let e = sym (full-declined (a .from) (a .to) (a .objidx) (a .whence) (a .bias) (a .is-signed) v (c .if-s .left) (sym (c .if-in-error .ensures tt .answer)) (c .in-Some .object .extent .head) (o .some) (o .at)
@@ -44,7 +44,7 @@ pub returns : need.returns
 returns c =
     let a = c .args in
     let v = view (a .s .now) in
-    let o = inner v (c .in-Some .object) (sym (c .innermost .ensures .answer) ∙ c .in-Some .is) in
+    let o = inner v (c .in-Some .object) (sym (c .outline .ensures .answer) ∙ c .in-Some .is) in
     let free : true ≡ cell-free (v .pool) = c .if-not-add-real .ensures tt .answer ∙ ap (λ (n : Bool). not n && cell-free (v .pool)) (o .some) in
     let e = sym (link-added (a .from) (a .to) (a .objidx) (a .whence) (a .bias) (a .is-signed) v (c .if-s .left) (sym (c .if-in-error .ensures tt .answer)) (c .in-Some .object .extent .head) (o .some) (o .at)
     (c .in-Some-link-in .link) (sym (c .link-in .ensures .answer) ∙ c .in-Some-link-in .is) (sym free)) in

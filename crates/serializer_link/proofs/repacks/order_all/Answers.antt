@@ -21,7 +21,7 @@ pub returns-in-rest : need.returns-in-rest
 returns-in-rest c =
     let i = c .loop-i .i in
     let ls = open-links (view (c .args .s .now)) in
-    let missing : nth ls i ≡ None = ap (λ (xs : List Link). nth xs i) (sym (real-open (view (c .loop-i .s) .opened) ∙ c .loop-i .inv .0)) ∙ sym (c .open-link .ensures .answer) ∙ c .in-rest .is in
+    let missing : nth ls i ≡ None = ap (λ (xs : List Link). nth xs i) (sym (real-open (view (c .loop-i .s) .opened) ∙ c .loop-i .inv .0)) ∙ sym (c .real-link .ensures .answer) ∙ c .in-rest .is in
     let h : length ls ≤ i = nth-none ls i missing in
     absurd (let z : ⊥ = omega (arith, c .pre, c .loop-i-test .taken) in z)
 
@@ -29,7 +29,7 @@ pub returns-then-not-order : need.returns-then-not-order
 returns-then-not-order c =
     let i = c .loop-i .i in
     let ls = open-links (view (c .args .s .now)) in
-    let found : nth ls i ≡ Some (c .in-Some .link) = ap (λ (xs : List Link). nth xs i) (sym (real-open (view (c .loop-i .s) .opened) ∙ c .loop-i .inv .0)) ∙ sym (c .open-link .ensures .answer) ∙ c .in-Some .is in
+    let found : nth ls i ≡ Some (c .in-Some .link) = ap (λ (xs : List Link). nth xs i) (sym (real-open (view (c .loop-i .s) .opened) ∙ c .loop-i .inv .0)) ∙ sym (c .real-link .ensures .answer) ∙ c .in-Some .is in
     let e = turn-declined (c .args .objidx) ls i (c .in-Some .link) (view (c .loop-i .s)) _ (c .loop-i .inv .1) found (sym (c .if-not-order .ensures tt .answer)) in
     record {
       answer = ap Err (c .flag .ensures .answer ∙ ap (λ (s : State). joined (s .flags) other) (c .order .ensures .state)) ∙ ap (λ (q : Answered). q .1) e;
@@ -41,7 +41,7 @@ loop-i-again c =
     let i = c .loop-i .i in
     let ls = open-links (view (c .args .s .now)) in
     let k = c .args .objidx in
-    let found : nth ls i ≡ Some (c .in-Some .link) = ap (λ (xs : List Link). nth xs i) (sym (real-open (view (c .loop-i .s) .opened) ∙ c .loop-i .inv .0)) ∙ sym (c .open-link .ensures .answer) ∙ c .in-Some .is in (
+    let found : nth ls i ≡ Some (c .in-Some .link) = ap (λ (xs : List Link). nth xs i) (sym (real-open (view (c .loop-i .s) .opened) ∙ c .loop-i .inv .0)) ∙ sym (c .real-link .ensures .answer) ∙ c .in-Some .is in (
       ap open-links (c .order .ensures .state) ∙ order-links k (c .in-Some .link) (view (c .loop-i .s)) ∙ c .loop-i .inv .0,
       ap (λ (s : State). repacking k (drop (i + 1) ls) s) (c .order .ensures .state)
           ∙ turn-passed k ls i (c .in-Some .link) (view (c .loop-i .s)) _ (c .loop-i .inv .1) found (sym (c .if-not-order .ensures tt .answer)),

@@ -16,5 +16,5 @@ unfolding hash
 returns c =
     let ls = real-of (first (view (c .args .s .now) .packed)) in
     record {
-      answer = c .finish .ensures .answer ∙ c .feed-last .ensures .state ∙ ap (λ (n : ℕ). hashed-from n (links-feed ls)) (c .hash-of-hasher .ensures .answer ∙ ap (λ (bs : List ℕ). hashed-from offset-basis (take 128 bs)) (c .part-of .ensures .answer ∙ ap (λ (m : List ℕ). part m (c .args .at .head) (c .args .at .tail)) (c .deref .ensures .value)));
+      answer = c .finish .ensures .answer ∙ c .feed .ensures .state ∙ ap (λ (n : ℕ). hashed-from n (links-feed ls)) (c .hash-of-hasher .ensures .answer ∙ ap (λ (bs : List ℕ). hashed-from offset-basis (take 128 bs)) (c .part-of .ensures .answer ∙ ap (λ (m : List ℕ). part m (c .args .at .head) (c .args .at .tail)) (c .deref .ensures .value)));
     }

@@ -4,4 +4,4 @@ use Rattle.serializer_write.proofs.Open.{none-read}
 use Rattle.serializer_write.proofs.opens.none_open.Needs as need
 
 pub returns : need.returns
-returns c = record { answer = none-read _ _ (ap isSome (sym (c .innermost .ensures .answer)) ∙ c .is-none .ensures) }
+returns c = record { answer = none-read _ _ (ap isSome (sym (c .outline .ensures .answer)) ∙ c .is-none .ensures) }
