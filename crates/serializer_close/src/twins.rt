@@ -31,7 +31,7 @@ fn like(s: &SerializerState, number: ObjIdx, at: Extent) -> bool
     let ours = part_of(&s.memory, at.head, at.tail);
     same_parts(theirs, ours)
         && s.objects
-            .same_links(Which::Innermost, Which::Numbered(number))
+            .same_links(Which::Numbered(number), Which::Innermost)
 }
 
 // The hash of the bytes at an extent and of the real links of the innermost object.
