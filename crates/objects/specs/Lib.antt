@@ -1,4 +1,0 @@
-pub mod Slots
-pub mod Contents
-pub mod Change
-pub mod Loose

@@ -1,3 +1,0 @@
-mod Offset
-mod Reach
-mod Put

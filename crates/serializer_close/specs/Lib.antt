@@ -1,2 +1,0 @@
-pub mod Twins
-pub mod Steps

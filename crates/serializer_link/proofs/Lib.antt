@@ -1,4 +1,0 @@
-mod Tests
-mod Open
-mod Added
-mod Ordering

@@ -1,4 +1,0 @@
-// The state of a serializer, and the steps that several of its calls share.
-pub mod state;
-
-pub use state::SerializerState;

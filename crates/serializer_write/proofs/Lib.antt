@@ -1,2 +1,0 @@
-mod Raw
-mod Open
