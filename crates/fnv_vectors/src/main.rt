@@ -3,9 +3,10 @@ use fnv::fnv1a;
 use std::error::AnyError;
 
 // A text and its hash as published.
+#[derive(Clone, Copy)]
 struct Vector<'a>(&'a [u8], u64);
 
-const VECTORS: [Vector<'static>; 16] = [
+static VECTORS: [Vector<'static>; 16] = [
     Vector(b"", 0xcbf29ce484222325),
     Vector(b"a", 0xaf63dc4c8601ec8c),
     Vector(b"b", 0xaf63df4c8601f1a5),
