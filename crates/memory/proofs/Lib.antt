@@ -1,0 +1,2 @@
+mod Part
+mod Written

@@ -1,0 +1,10 @@
+mod Count
+mod Sound
+mod Frame
+mod Stack
+mod Number
+mod Relink
+mod Release
+mod Reading
+mod Fresh
+mod HandOver

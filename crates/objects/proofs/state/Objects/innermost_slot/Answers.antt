@@ -1,0 +1,18 @@
+use Rattle.std.specs.Of.Vec.{vec-items}
+use Rattle.links.specs.Meaning.{lists}
+use Rattle.objects.specs.Contents.{parts, contents, object-at}
+use Rattle.objects.specs.Loose.{below}
+use Rattle.objects.proofs.Sound.{sound}
+use Rattle.objects.proofs.Stack.{first-is, top-pops, within-opened}
+use Rattle.objects.proofs.state.Objects.innermost_slot.Needs as need
+
+pub returns : need.returns
+unfolding contents object-at
+returns c =
+    let s = c .args .self .now in
+    let t = c .top .ensures .answer in
+    record {
+      answer = first-is (vec-items (s .extents)) (lists (s .links)) (vec-items (s .opened)) (below (vec-items (s .opened))) (c .top .result) (top-pops (vec-items (s .opened)) (c .top .result) t);
+      top = t;
+      within = within-opened (parts s) (c .top .result) (sound s) t;
+    }

@@ -1,0 +1,9 @@
+use mathlib.Core.Path.{refl}
+use native.Mathlib.Omega.{arith}
+use Rattle.objects.specs.Contents.{object-at}
+use Rattle.objects.proofs.Sound.{lists-in}
+use Rattle.objects.proofs.state.Objects.real_list.Needs as need
+
+pub returns : need.returns
+unfolding object-at
+returns c = record { answer = refl; links = refl; inside = omega (arith, lists-in (c .args .self .now) (c .args .slot) (c .pre .within) .0) }

@@ -1,0 +1,4 @@
+pub mod Slots
+pub mod Contents
+pub mod Change
+pub mod Loose

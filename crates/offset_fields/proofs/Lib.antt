@@ -1,0 +1,3 @@
+mod Offset
+mod Reach
+mod Put

@@ -1,0 +1,4 @@
+mod Tests
+mod Open
+mod Added
+mod Ordering

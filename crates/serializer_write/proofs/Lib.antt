@@ -1,0 +1,2 @@
+mod Raw
+mod Open
