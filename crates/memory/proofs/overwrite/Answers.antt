@@ -8,6 +8,6 @@ returns c =
     let bs = c.args.bytes.now in
     let fits : c.args.at + length bs ≤ length v.items = omega (arith, c.requires, v.ok.0) in
     record {
-      state = put_is v c.deref-mut.result.now c.copy-from-slice.new.self bs c.args.at (length bs) c.deref-mut.ensures.value c.copy-from-slice.ensures.after refl fits (sym v.ok.0);
+      state = put_is v c.deref_mut.result.now c.copy_from_slice.new.self bs c.args.at (length bs) c.deref_mut.ensures.value c.copy_from_slice.ensures.after refl fits (sym v.ok.0);
       len = refl;
     }

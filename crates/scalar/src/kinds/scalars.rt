@@ -1,11 +1,12 @@
 // What the kinds that are structs do: a number of three bytes is made from a u32 and turned back into one, tags
 // are compared, and both are scalars.
-ghost use Rattle.std.specs.Prelude.{◌≡◌, ℕ, ◌-◌, ◌%◌, ◌^◌, false, length, if◌then◌else◌, Some, None, Decides, nat_lt};
+ghost use Rattle.std.specs.Prelude.{◌≡◌, ℕ, ◌-◌, ◌%◌, ◌^◌, false, length, if◌then◌else◌, Some, None, Decides, nat_eq, nat_lt};
 ghost use Rattle.std.proofs.Common.{ap, ◌∙◌, mod-eq_of_lt, rules, arith};
 ghost use Rattle.scalar.specs.BigEndian.{number, big_endian, Bytes};
 ghost use Rattle.scalar.specs.Kinds.{value_of, uint24, tag_bytes, tag};
 ghost use Rattle.scalar.specs.BigEndianLemmas.{number_back, number_below, big_endian_again};
 ghost use Rattle.scalar.specs.Small.{same_uint24};
+ghost use Rattle.std.specs.Cmp.Lexicographic.{pointwise};
 ghost use Rattle.std.specs.Cmp.Rules.{comparing};
 ghost use Rattle.std.specs.Cmp as Keys;
 
@@ -125,13 +126,16 @@ impl Scalar for Tag {
     }
 }
 
-// Written out, since a derived one says nothing of arrays.
+// Written out, so that it says outright what it decides.
 impl PartialEq for Tag {
-    ghost equals = { λ x y r. Decides r (x ≡ y) };
+    ghost eq = { λ x y. pointwise nat_eq x.0 y.0 };
 
     ghost laws = { Keys.partial_equiv_from_equiv (Prim.search (comparing, rules)) };
 
-    fn eq(&self, other: &Tag) -> bool {
+    fn eq(&self, other: &Tag) -> bool
+        ensures eq { result ≡ pointwise nat_eq self.now.0 other.now.0 }
+        ensures decides { Decides result (self.now ≡ other.now) }
+    {
         self.0 == other.0
     }
 }

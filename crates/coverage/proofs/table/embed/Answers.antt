@@ -19,12 +19,12 @@ returns g c =
     let ok : Ok c.in-Ok.place ≡ Ok k.head = c.in-Ok.ensures.answer ∙ ap (λ b. cond b (Ok k.head) (Err out_of_room)) roomy in
     let place : c.in-Ok.place ≡ k.head = cc in
     let fits : k.head + w ≤ length m = omega (arith, k.within) in
-    let done : c.write-at.result ≡ true = c.write-at.ensures.answer ∙ le-leb _ _ (omega arith) in
-    let written : c.write-at.new.buf.items ≡ write m k.head bs = c.write-at.ensures.state ∙ ap (λ r. cond r (write m c.in-Ok.place bs) m) done ∙ ap (λ a. write m a bs) place in
-    let sized : length bs ≡ w = g.met.S.Scalar.sized c.args.value c.write-at.ensures.fits in
-    let kept : length c.write-at.new.buf.items ≡ length m = ap length written ∙ length_written m bs k.head w fits sized in
+    let done : c.write_at.result ≡ true = c.write_at.ensures.answer ∙ le-leb _ _ (omega arith) in
+    let written : c.write_at.new.buf.items ≡ write m k.head bs = c.write_at.ensures.state ∙ ap (λ r. cond r (write m c.in-Ok.place bs) m) done ∙ ap (λ a. write m a bs) place in
+    let sized : length bs ≡ w = g.met.S.Scalar.sized c.args.value c.write_at.ensures.fits in
+    let kept : length c.write_at.new.buf.items ≡ length m = ap length written ∙ length_written m bs k.head w fits sized in
     record {
       cursor = record { head_at = c.advance.ensures.state.head_at ∙ moved; tail_at = c.advance.ensures.state.tail_at; end_at = c.advance.ensures.state.end_at };
       front = ap (take (k.head + w)) written ∙ front_written m bs k.head w fits sized;
-      len = c.write-at.new.buf.ok.0 ∙ kept ∙ sym c.args.bytes.now.ok.0;
+      len = c.write_at.new.buf.ok.0 ∙ kept ∙ sym c.args.bytes.now.ok.0;
     }

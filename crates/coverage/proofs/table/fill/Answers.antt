@@ -12,5 +12,5 @@ returns c =
     ap (λ n. take n c.embed.new.bytes.items) c.embed.ensures.cursor.head_at ∙ c.embed.ensures.front ∙ ap (λ n. take n c.args.bytes.now.items ++ big_endian 2 c.args.format) zero ∙ ap (big_endian 2) c.requires.first in
     let count : take c.embed-2.new.cursor.head c.embed-2.new.bytes.items ≡ big_endian 2 1 ++ big_endian 2 (length gs) =
     ap (λ n. take n c.embed-2.new.bytes.items) c.embed-2.ensures.cursor.head_at ∙ c.embed-2.ensures.front ∙ ap (λ bs. bs ++ big_endian 2 c.args.count) format ∙ ap (λ n. big_endian 2 1 ++ big_endian 2 n) c.requires.counted in
-    let whole : take (c.embed-2.new.cursor.head + 2 * length gs) c.embed-all.new.bytes.items ≡ c.embed-all.new.bytes.items = take_all _ _ (omega arith) in
-    record { state = sym whole ∙ c.embed-all.ensures.front ∙ ap (λ bs. bs ++ glyph_array gs) count }
+    let whole : take (c.embed-2.new.cursor.head + 2 * length gs) c.embed_all.new.bytes.items ≡ c.embed_all.new.bytes.items = take_all _ _ (omega arith) in
+    record { state = sym whole ∙ c.embed_all.ensures.front ∙ ap (λ bs. bs ++ glyph_array gs) count }

@@ -5,14 +5,14 @@ use Rattle.offset_fields.specs.Passes.{ending}
 use Rattle.offset_fields.proofs.Put.{reached, not_reached}
 use Rattle.offset_fields.proofs.passes.write_fields.Goals as goal
 
-pub returns-then-not-all-reach : goal.returns-then-not-all-reach
-returns-then-not-all-reach c =
+pub returns-then-not-all_reach : goal.returns-then-not-all_reach
+returns-then-not-all_reach c =
     let k = c.args.cursor in
     let m = vec_items c.args.memory.now in
     let o = contents c.args.objects.now in
     let s = ending m c.args.flags.now k o in
     record {
-      state = ap (λ (f : SerializeErrorFlags). ending m f k o) c.set_err.ensures.state ∙ not_reached s k.apart (sym c.all_reach.ensures.answer ∙ c.if-not-all-reach.true);
+      state = ap (λ (f : SerializeErrorFlags). ending m f k o) c.set_err.ensures.state ∙ not_reached s k.apart (sym c.all_reach.ensures.answer ∙ c.if-not-all_reach.true);
       len = refl;
     }
 
@@ -21,6 +21,6 @@ returns c =
     let k = c.args.cursor in
     let s = ending (vec_items c.args.memory.now) c.args.flags.now k (contents c.args.objects.now) in
     record {
-      state = c.put_objects.ensures.state ∙ reached s k.apart (sym c.all_reach.ensures.answer ∙ c.if-not-all-reach.false);
+      state = c.put_objects.ensures.state ∙ reached s k.apart (sym c.all_reach.ensures.answer ∙ c.if-not-all_reach.false);
       len = c.put_objects.ensures.len;
     }

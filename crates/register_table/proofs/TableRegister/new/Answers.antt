@@ -8,8 +8,8 @@ use Rattle.register_table.proofs.TableRegister.new.Goals as goal
 pub invariant-of-result : goal.invariant-of-result
 invariant-of-result c =
     let n = c.max.result in
-    let all : c.in-ok-cells.cells.items ≡ replicate n Free = c.in-ok-cells.ensures.items-if-clones-equal (λ y e. e) in
-    let long = c.in-ok-cells.ensures.len in (
+    let all : c.in_ok-cells.cells.items ≡ replicate n Free = c.in_ok-cells.ensures.items-if-clones-equal (λ y e. e) in
+    let long = c.in_ok-cells.ensures.len in (
       λ k. subst (λ cs. Reached cs k) (sym all) (free_reached n k),
       (λ g m. omega (arith, ap (λ cs. times cs g m) all, free_count (has g m) refl n), (sym (ap filled all ∙ free_count full refl n), (omega arith, (omega (arith, long, c.max.ensures, c.in-Some.ensures), tt)))),
     )
@@ -17,5 +17,5 @@ invariant-of-result c =
 pub returns : goal.returns
 returns c =
     let n = c.max.result in
-    let all : c.in-ok-cells.cells.items ≡ replicate n Free = c.in-ok-cells.ensures.items-if-clones-equal (λ y e. e) in
-    record { register = ap (λ es. pairs_of es c.args.capacity) (ap entries all ∙ free_entries n); cells = c.in-ok-cells.ensures.len ∙ c.max.ensures ∙ ap (max c.args.cells) c.in-Some.ensures.1 }
+    let all : c.in_ok-cells.cells.items ≡ replicate n Free = c.in_ok-cells.ensures.items-if-clones-equal (λ y e. e) in
+    record { register = ap (λ es. pairs_of es c.args.capacity) (ap entries all ∙ free_entries n); cells = c.in_ok-cells.ensures.len ∙ c.max.ensures ∙ ap (max c.args.cells) c.in-Some.ensures.1 }

@@ -17,5 +17,5 @@ loop-cells-preserved c =
 pub returns : goal.returns
 returns c = record {
   pairs = without _ c.args.cells.now _ c.loop-cells.cells _ _ c.loop-cells.invariant c.requires.within;
-  reached = ends _ c.args.cells.now _ c.loop-cells.cells _ _ c.loop-cells.invariant c.in-default.is;
+  reached = ends _ c.args.cells.now _ c.loop-cells.cells _ _ c.loop-cells.invariant c.in_default.is;
 }

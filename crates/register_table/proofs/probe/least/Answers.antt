@@ -24,4 +24,4 @@ loop-at-preserved c =
 
 pub returns : goal.returns
 returns c =
-    next_from c.args.cells.now _ _ c.loop-at.best c.loop-at.at c.requires.free c.loop-at.invariant.0.0 c.requires.reached c.in-default.is c.loop-at.invariant.0.2 c.loop-at.invariant.1
+    next_from c.args.cells.now _ _ c.loop-at.best c.loop-at.at c.requires.free c.loop-at.invariant.0.0 c.requires.reached c.in_default.is c.loop-at.invariant.0.2 c.loop-at.invariant.1

@@ -32,4 +32,4 @@ loop-at-preserved c =
 
 pub returns : goal.returns
 returns c =
-    (c.loop-at.invariant.0, c.in-default.is, unseen c.args.cells.now _ _ _ (home_less _ _ c.requires.free) c.loop-at.invariant.0 c.requires.reached c.in-default.is c.loop-at.invariant.2, c.loop-at.invariant.1)
+    (c.loop-at.invariant.0, c.in_default.is, unseen c.args.cells.now _ _ _ (home_less _ _ c.requires.free) c.loop-at.invariant.0 c.requires.reached c.in_default.is c.loop-at.invariant.2, c.loop-at.invariant.1)

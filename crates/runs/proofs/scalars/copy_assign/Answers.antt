@@ -14,7 +14,7 @@ returns-in-I16 c =
     let f : SFits w16 x = search rules in
     record {
       state =
-          c.copy-assign-in-I16.ensures.state
+          c.copy_assign-in-I16.ensures.state
           ∙ ap (λ (z : ℤ). copy_assign c.args.pos (big_endian 2 (of_z w16 z)) s) (to_z-of_z w16 x f)
           ∙ ap (λ (v : ScalarValue). copy_assign c.args.pos (scalar_bytes v) s) (sym c.in-I16.is);
     }

@@ -10,4 +10,4 @@ returns-then-n-len c =
 pub returns : goal.returns
 returns c =
     let l : c.args.n < length (vec_items c.args.answers.now) = search rules in
-    record { answer = c.taken-by.ensures.answer ∙ taken_told (vec_items c.args.answers.now) c.args.n _ l c.index.ensures }
+    record { answer = c.taken_by.ensures.answer ∙ taken_told (vec_items c.args.answers.now) c.args.n _ l c.index.ensures }

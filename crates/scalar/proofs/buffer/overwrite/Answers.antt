@@ -7,17 +7,17 @@ pub returns : goal.returns
 returns g c =
     let at = c.args.at in
     let d = c.args.buf.now in
-    let bs = g.S-as-Scalar.bytes c.args.value in
+    let bs = g.S.Scalar.bytes c.args.value in
     let size = c.size-size.result in
     let fits = c.raw-raw.ensures.fits in
     let l : length bs ≡ size = g.met.S.Scalar.sized c.args.value fits ∙ sym c.size-size.ensures in
     let k : length bs ≡ at + size - at = l ∙ omega arith in
     let copied =
-    c.copy-from-slice.ensures.after
+    c.copy_from_slice.ensures.after
     ∙ ap (take (size - 0)) c.raw-raw.ensures.answer
     ∙ take_in_four bs (size - 0) (l ∙ omega arith) in
     record {
-      answer = c.if-not-has-room.ensures ∙ ap (room d at) c.size-size.ensures;
+      answer = c.if-not-has_room.ensures ∙ ap (room d at) c.size-size.ensures;
       state = put_mid_write d bs _ at (at + size - at) copied k;
       fits = fits;
     }

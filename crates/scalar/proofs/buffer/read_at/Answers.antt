@@ -7,13 +7,13 @@ pub returns : goal.returns
 returns g c =
     let at = c.args.at in
     let d = c.args.buf.now in
-    let m = g.S-as-Scalar in
-    let has = ap (room d at) (sym c.size-size.ensures) ∙ sym c.if-not-has-room.ensures in
-    let copied = c.copy-from-slice.ensures.after ∙ ap (λ (s : ℕ). part d at (at + s)) c.size-size.ensures in
-    let front = c.copy-from-slice.new.self in
-    let read = c.from-raw.ensures.answer in
+    let m = g.S.Scalar in
+    let has = ap (room d at) (sym c.size-size.ensures) ∙ sym c.if-not-has_room.ensures in
+    let copied = c.copy_from_slice.ensures.after ∙ ap (λ (s : ℕ). part d at (at + s)) c.size-size.ensures in
+    let front = c.copy_from_slice.new.self in
+    let read = c.from_raw.ensures.answer in
     record {
-      answer = read_front m.reads d front _ at m.width c.from-raw.result has copied read;
-      bytes = read_bytes m.reads m.bytes d front _ at m.width c.from-raw.result g.met.S.Scalar.again (λ i. search rules) has copied read;
-      fits = c.from-raw.ensures.fits;
+      answer = read_front m.reads d front _ at m.width c.from_raw.result has copied read;
+      bytes = read_bytes m.reads m.bytes d front _ at m.width c.from_raw.result g.met.S.Scalar.again (λ i. search rules) has copied read;
+      fits = c.from_raw.ensures.fits;
     }

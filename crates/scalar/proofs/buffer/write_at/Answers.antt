@@ -7,12 +7,12 @@ use Rattle.scalar.proofs.buffer.write_at.Goals as goal
 pub returns : goal.returns
 returns g c =
     let at = c.args.at in
-    let bs = g.S-as-Scalar.bytes c.args.value in
+    let bs = g.S.Scalar.bytes c.args.value in
     let w = c.overwrite in
-    let lent = c.deref-mut.ensures.value in
+    let lent = c.deref_mut.ensures.value in
     let l : length w.new.buf ≡ c.args.buf.now.len = search rules in
     record {
-      answer = w.ensures.answer ∙ ap (λ (d : List ℕ). room d at g.S-as-Scalar.width) lent;
+      answer = w.ensures.answer ∙ ap (λ (d : List ℕ). room d at g.S.Scalar.width) lent;
       state = take_at w.new.buf _ _ l ∙ w.ensures.state ∙ ap (λ (d : List ℕ). cond w.result (write d at bs) d) lent;
       fits = w.ensures.fits;
     }

@@ -3,29 +3,29 @@ use Rattle.scalar.specs.Place.{write}
 use Rattle.scalar.proofs.Place.{read_write}
 use Rattle.scalar.proofs.buffer.write_read.Goals as goal
 
-pub returns-then-write-at : goal.returns-then-write-at
-returns-then-write-at g c =
-    let m = g.S-as-Scalar in
+pub returns-then-write_at : goal.returns-then-write_at
+returns-then-write_at g c =
+    let m = g.S.Scalar in
     let met = g.met.S.Scalar in
     let d = c.args.buf.now.items in
     let at = c.args.at in
     let x = c.args.value in
-    let p = c.if-write-at.ensures in
+    let p = c.if-write_at.ensures in
     let sized = met.sized x p.fits in
     let lent = c.deref.ensures.value ∙ p.state in
     let read =
-    c.read-at.ensures.answer ∙ read_write d (m.bytes x) at m.width sized (sym p.answer) m.reads c.deref.result.now lent in
+    c.read_at.ensures.answer ∙ read_write d (m.bytes x) at m.width sized (sym p.answer) m.reads c.deref.result.now lent in
     record {
       answer = read ∙ ap Some (met.back x p.fits) ∙ ap (λ (b : Bool). cond b (Some x) None) p.answer;
       state = p.state ∙ ap (λ (b : Bool). cond b (write d at (m.bytes x)) d) p.answer;
     }
 
-pub returns-else-write-at : goal.returns-else-write-at
-returns-else-write-at g c =
+pub returns-else-write_at : goal.returns-else-write_at
+returns-else-write_at g c =
     let d = c.args.buf.now.items in
     let x = c.args.value in
-    let p = c.if-write-at.ensures in
+    let p = c.if-write_at.ensures in
     record {
       answer = ap (λ (b : Bool). cond b (Some x) None) p.answer;
-      state = p.state ∙ ap (λ (b : Bool). cond b (write d c.args.at (g.S-as-Scalar.bytes x)) d) p.answer;
+      state = p.state ∙ ap (λ (b : Bool). cond b (write d c.args.at (g.S.Scalar.bytes x)) d) p.answer;
     }

@@ -6,8 +6,8 @@ use Rattle.serializer_state.specs.View.{view}
 use Rattle.serializer_close.proofs.Sharing.{open_since}
 use Rattle.serializer_close.proofs.packs.pop_pack.Goals as goal
 
-pub pack-shared-requires : goal.pack-shared-requires
-pack-shared-requires g c =
+pub pack_shared-requires : goal.pack_shared-requires
+pack_shared-requires g c =
     let e = c.lift-at.ensures.state in
     let x = view c.args.s.now in
     record {

@@ -10,8 +10,8 @@ use Rattle.serializer_close.specs.Twins.{like_numbered}
 use Rattle.serializer_close.proofs.Least.{twin_none, twin_some, unheld}
 use Rattle.serializer_close.proofs.twins.find_twin.Goals as goal
 
-pub returns-then-number-packed-count : goal.returns-then-number-packed-count
-returns-then-number-packed-count g c =
+pub returns-then-number-packed_count : goal.returns-then-number-packed_count
+returns-then-number-packed_count g c =
     let s = view c.args.s.now in
     let bs = part s.memory c.args.at.head c.args.at.tail in
     let ls = real_of (first s.opened) in
@@ -48,6 +48,6 @@ returns g c =
     record {
       answer = sym (ap (λ (o : Option ℕ). option_map index o) (twin_none s.memory r c.args.hash bs ls s.packed (λ k l. elim (cases_lt k c.loop-number.from.0) [
         | inl q ↦ c.loop-number.invariant k q
-        | inr q ↦ unheld s.memory r c.args.hash bs ls s.packed k (c.in-default.ensures.answer k q)
+        | inr q ↦ unheld s.memory r c.args.hash bs ls s.packed k (c.in_default.ensures.answer k q)
       ])));
     }

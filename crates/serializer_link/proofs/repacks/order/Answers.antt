@@ -10,9 +10,9 @@ invariant-of-s c =
     let n = vec_len s.memory in (
       s.sized,
       (
-        ap (λ (k : Contents). within n k.opened) c.add-virtual-to.ensures.state ∙ kept_inside n _ _ _ (contents s.objects) ∙ s.inside,
+        ap (λ (k : Contents). within n k.opened) c.add_virtual_to.ensures.state ∙ kept_inside n _ _ _ (contents s.objects) ∙ s.inside,
         (
-          ap (λ (k : Contents). lying n k.packed) c.add-virtual-to.ensures.state ∙ kept_lies n _ _ _ (contents s.objects) ∙ s.lies,
+          ap (λ (k : Contents). lying n k.packed) c.add_virtual_to.ensures.state ∙ kept_lies n _ _ _ (contents s.objects) ∙ s.lies,
           tt,
         ),
       ),

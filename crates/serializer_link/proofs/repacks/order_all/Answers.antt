@@ -11,11 +11,11 @@ use Rattle.serializer_link.proofs.Open.{real_open}
 use Rattle.serializer_link.proofs.Ordering.{order_links, nth_none, turn_passed, turn_declined}
 use Rattle.serializer_link.proofs.repacks.order_all.Goals as goal
 
-pub returns-in-default : goal.returns-in-default
-returns-in-default c =
+pub returns-in_default : goal.returns-in_default
+returns-in_default c =
     let i = c.loop-i.i in
     let ls = open_links (view c.args.s.now) in
-    let missing : nth ls i ≡ None = ap (λ (xs : List Link). nth xs i) (sym (real_open (view c.loop-i.s).opened ∙ c.loop-i.invariant.0)) ∙ sym c.real_link.ensures.answer ∙ c.in-default.is in
+    let missing : nth ls i ≡ None = ap (λ (xs : List Link). nth xs i) (sym (real_open (view c.loop-i.s).opened ∙ c.loop-i.invariant.0)) ∙ sym c.real_link.ensures.answer ∙ c.in_default.is in
     let h : length ls ≤ i = nth_none ls i missing in
     absurd (let z : ⊥ = omega (arith, c.requires, c.loop-i-test.true) in z)
 

@@ -3,15 +3,15 @@ use Rattle.links.specs.Meaning.{lists, cells}
 use Rattle.links.proofs.Reading.{free_inside, read_last, counts_fit}
 use Rattle.links.proofs.Append.{refuse_list, refuse_full, accept, free_in, append_wired, append_lists}
 use Rattle.links.proofs.state.Links.append.Goals as goal
-use Rattle.links.proofs.state.Links.append.Goals.{then-list-len-via-then-list-len, then-list-len-via-else-list-len+then-self-eq0}
+use Rattle.links.proofs.state.Links.append.Goals.{then-list_len-via-then-list_len, then-list_len-via-else-list_len+then-self-eq0}
 
-pub returns-then-list-len : goal.returns-then-list-len
-returns-then-list-len c =
+pub returns-then-list_len : goal.returns-then-list_len
+returns-then-list_len c =
     record {
       answer =
-          elim c.then-list-len.branch [
-            | then-list-len-via-then-list-len w ↦ refuse_list c.args.self.now c.args.list (omega arith)
-            | then-list-len-via-else-list-len+then-self-eq0 w ↦ refuse_full c.args.self.now c.args.list (omega arith)
+          elim c.then-list_len.branch [
+            | then-list_len-via-then-list_len w ↦ refuse_list c.args.self.now c.args.list (omega arith)
+            | then-list_len-via-else-list_len+then-self-eq0 w ↦ refuse_full c.args.self.now c.args.list (omega arith)
           ];
       state = refl;
       same = refl;
@@ -20,8 +20,8 @@ returns-then-list-len c =
 pub split-requires : goal.split-requires
 split-requires c = record { inside = free_inside c.args.self.now; within = omega arith }
 
-pub index-mut-requires : goal.index-mut-requires
-index-mut-requires c = omega (arith, free_in c.args.self.now (omega arith), ap (λ t. t.first) c.split.ensures.front)
+pub index_mut-requires : goal.index_mut-requires
+index_mut-requires c = omega (arith, free_in c.args.self.now (omega arith), ap (λ t. t.first) c.split.ensures.front)
 
 pub join-requires : goal.join-requires
 join-requires c =

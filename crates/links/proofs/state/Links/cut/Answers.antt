@@ -4,8 +4,8 @@ use Rattle.links.proofs.Reading.{no_list, a_list, read_inside, free_last, counts
 use Rattle.links.proofs.Cut.{cut_no_list, cut_none, cut_wired, cut_lists}
 use Rattle.links.proofs.state.Links.cut.Goals as goal
 
-pub returns-then-list-len : goal.returns-then-list-len
-returns-then-list-len c =
+pub returns-then-list_len : goal.returns-then-list_len
+returns-then-list_len c =
     let s = c.args.self.now in
     record { answer = no_list s c.args.list (omega arith); state = cut_no_list s c.args.list _ (omega arith); same = refl }
 

@@ -12,7 +12,7 @@ loop-link-init c =
 
 pub loop-link-preserved : goal.loop-link-preserved
 loop-link-preserved c =
-    links_fed c.loop-link.hasher.0 c.feed-link.new.hasher.0 c.in-Some.link (rest c.loop-link.link-iterator) (rest c.next.new.self) c.in-Some.ensures.steps c.feed-link.ensures.state
+    links_fed c.loop-link.hasher.0 c.feed_link.new.hasher.0 c.in-Some.link (rest c.loop-link.link-iterator) (rest c.next.new.self) c.in-Some.ensures.steps c.feed_link.ensures.state
     ∙ c.loop-link.invariant
 
 pub returns : goal.returns

@@ -3,9 +3,9 @@ use Rattle.links.specs.Rest.{rest}
 use Rattle.links.proofs.Reading.{past_list, list_is, read_inside}
 use Rattle.links.proofs.state.Links.iter.Goals as goal
 
-pub returns-then-list-len : goal.returns-then-list-len
+pub returns-then-list_len : goal.returns-then-list_len
 unfolding rest
-returns-then-list-len c = record { answer = sym (past_list c.args.self.now c.args.list (omega arith)) }
+returns-then-list_len c = record { answer = sym (past_list c.args.self.now c.args.list (omega arith)) }
 
 pub invariant-of-result-2 : goal.invariant-of-result-2
 invariant-of-result-2 c =

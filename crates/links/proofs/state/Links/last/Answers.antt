@@ -4,8 +4,8 @@ use Rattle.links.specs.Meaning.{list_at}
 use Rattle.links.proofs.Reading.{links_of, At, get_none, get_past, get_some, list_length, last_is, read_last}
 use Rattle.links.proofs.state.Links.last.Goals as goal
 
-pub returns-then-list-len : goal.returns-then-list-len
-returns-then-list-len c = record { answer = get_none c.args.self.now c.args.list _ (omega arith) }
+pub returns-then-list_len : goal.returns-then-list_len
+returns-then-list_len c = record { answer = get_none c.args.self.now c.args.list _ (omega arith) }
 
 pub returns-then-chain-eq0 : goal.returns-then-chain-eq0
 returns-then-chain-eq0 c =

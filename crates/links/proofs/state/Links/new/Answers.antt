@@ -12,27 +12,27 @@ loop-i-preserved c =
     let ns = vec_items c.loop-i.nexts in
     let i = c.loop-i.i in
     let len : length ns ≡ i = sym c.loop-i.nexts.ok.0 ∙ c.loop-i.invariant.0 in (
-      omega (arith, c.push-reserved.ensures.len, c.loop-i.invariant.0),
-      omega (arith, c.push-reserved.ensures.capacity, c.loop-i.invariant.1),
+      omega (arith, c.push_reserved.ensures.len, c.loop-i.invariant.0),
+      omega (arith, c.push_reserved.ensures.capacity, c.loop-i.invariant.1),
       below_more _ _
-          (λ k h. ap (λ (l : List ℕ). get_or l k 0) c.push-reserved.ensures.items ∙ get_or_append_left ns ((i + 1) ∷ []) 0 k (omega arith) ∙ c.loop-i.invariant.2 k h)
-          (ap (λ (l : List ℕ). get_or l i 0) c.push-reserved.ensures.items ∙ get_or_push ns (i + 1) 0 i len),
+          (λ k h. ap (λ (l : List ℕ). get_or l k 0) c.push_reserved.ensures.items ∙ get_or_append_left ns ((i + 1) ∷ []) 0 k (omega arith) ∙ c.loop-i.invariant.2 k h)
+          (ap (λ (l : List ℕ). get_or l i 0) c.push_reserved.ensures.items ∙ get_or_push ns (i + 1) 0 i len),
     )
 
 pub invariant-of-result : goal.invariant-of-result
 invariant-of-result c =
     let ns = vec_items c.loop-i.nexts in
-    let free : Chain = record { first = 0; last = c.saturating-sub.result; count = c.args.cell-count } in
-    let are : vec_items c.in-ok-chains.chains ≡ replicate c.args.list-count no_chain = c.in-ok-chains.ensures.items-if-clones-equal (λ y h. h) in
-    let w : Wired ns (free ∷ vec_items c.in-ok-chains.chains) =
+    let free : Chain = record { first = 0; last = c.saturating_sub.result; count = c.args.cell_count } in
+    let are : vec_items c.in_ok-chains.chains ≡ replicate c.args.list_count no_chain = c.in_ok-chains.ensures.items-if-clones-equal (λ y h. h) in
+    let w : Wired ns (free ∷ vec_items c.in_ok-chains.chains) =
     subst (λ (l : List Chain). Wired ns (free ∷ l)) (sym are)
-    (fresh_wired ns c.args.cell-count c.args.list-count free (omega (arith, c.loop-i.nexts.ok.0, c.loop-i.invariant.0)) (λ k h. c.loop-i.invariant.2 k (omega arith)) refl c.saturating-sub.ensures refl) in
-    (omega (arith, c.in-ok-links.ensures.len, c.loop-i.invariant.0), (w.once, (w.ended, (w.filled, tt))))
+    (fresh_wired ns c.args.cell_count c.args.list_count free (omega (arith, c.loop-i.nexts.ok.0, c.loop-i.invariant.0)) (λ k h. c.loop-i.invariant.2 k (omega arith)) refl c.saturating_sub.ensures refl) in
+    (omega (arith, c.in_ok-links.ensures.len, c.loop-i.invariant.0), (w.once, (w.ended, (w.filled, tt))))
 
 pub returns : goal.returns
 unfolding lists cells
 returns c =
-    let ls = vec_items c.in-ok-links.links in
+    let ls = vec_items c.in_ok-links.links in
     let ns = vec_items c.loop-i.nexts in
-    let are : vec_items c.in-ok-chains.chains ≡ replicate c.args.list-count no_chain = c.in-ok-chains.ensures.items-if-clones-equal (λ y h. h) in
-    record { answer = (ap (meaning ls ns) are ∙ fresh_lists ls ns c.args.list-count, omega (arith, c.loop-i.invariant.0)) }
+    let are : vec_items c.in_ok-chains.chains ≡ replicate c.args.list_count no_chain = c.in_ok-chains.ensures.items-if-clones-equal (λ y h. h) in
+    record { answer = (ap (meaning ls ns) are ∙ fresh_lists ls ns c.args.list_count, omega (arith, c.loop-i.invariant.0)) }

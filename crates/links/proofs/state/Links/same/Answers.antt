@@ -32,23 +32,23 @@ loop-x-init c =
     ∙ sym (list_length s c.args.b c.index-2.result.now (record { within = omega arith; read = c.index-2.ensures })))
     (ap rest c.into-iter-x-iterator.ensures.into-iter-gives ∙ c.iter-x-items.ensures.answer) c.iter-others.ensures.answer
 
-pub returns-in-default : goal.returns-in-default
-returns-in-default c =
+pub returns-in_default : goal.returns-in_default
+returns-in_default c =
     record {
-      answer = not_same c.args.self.now c.args.a c.args.b (λ _. level_short _ _ c.in-Some.x c.loop-x.invariant c.in-Some.ensures.steps c.in-default.ensures.steps.0);
+      answer = not_same c.args.self.now c.args.a c.args.b (λ _. level_short _ _ c.in-Some.x c.loop-x.invariant c.in-Some.ensures.steps c.in_default.ensures.steps.0);
     }
 
-pub returns-then-not-same-link : goal.returns-then-not-same-link
-returns-then-not-same-link c =
+pub returns-then-not-same_link : goal.returns-then-not-same_link
+returns-then-not-same_link c =
     record {
       answer =
           not_same c.args.self.now c.args.a c.args.b
-          (level_apart _ _ c.in-Some.x c.in-Some-next.y c.loop-x.invariant c.in-Some.ensures.steps c.in-Some-next.ensures.steps (λ e. false≢true (sym c.if-not-same-link.true ∙ c.same_link.ensures.1 e)));
+          (level_apart _ _ c.in-Some.x c.in-Some-next.y c.loop-x.invariant c.in-Some.ensures.steps c.in-Some-next.ensures.steps (λ e. false≢true (sym c.if-not-same_link.true ∙ c.same_link.ensures.1 e)));
     }
 
 pub loop-x-preserved : goal.loop-x-preserved
 loop-x-preserved c =
-    level_more _ _ c.in-Some.x c.in-Some-next.y c.loop-x.invariant c.in-Some.ensures.steps c.in-Some-next.ensures.steps (c.same_link.ensures.0 c.if-not-same-link.false)
+    level_more _ _ c.in-Some.x c.in-Some-next.y c.loop-x.invariant c.in-Some.ensures.steps c.in-Some-next.ensures.steps (c.same_link.ensures.0 c.if-not-same_link.false)
 
 pub returns : goal.returns
 returns c =

@@ -3,8 +3,8 @@ use Rattle.links.specs.Meaning.{cells}
 use Rattle.links.proofs.Reading.{used_is}
 use Rattle.links.proofs.state.Links.used.Goals as goal
 
-pub overflow-sub-result : goal.overflow-sub-result
-overflow-sub-result c = omega (arith, used_is c.args.self.now)
+pub overflow_sub-result : goal.overflow_sub-result
+overflow_sub-result c = omega (arith, used_is c.args.self.now)
 
 pub returns : goal.returns
 unfolding cells

@@ -8,8 +8,8 @@ use Rattle.objects.proofs.Number.{numbered_once}
 use Rattle.objects.proofs.Relink.{appended, added, added_means, room_answer, linked_packed}
 use Rattle.objects.proofs.state.Objects.append_packed.Goals as goal
 
-pub virtual-list-list-requires : goal.virtual-list-list-requires
-virtual-list-list-requires c = record { within = (numbered_once (parts c.args.self.now) c.args.number.0 c.args.slot (sound c.args.self.now) c.requires.place).0 }
+pub virtual_list-list-requires : goal.virtual_list-list-requires
+virtual_list-list-requires c = record { within = (numbered_once (parts c.args.self.now) c.args.number.0 c.args.slot (sound c.args.self.now) c.requires.place).0 }
 
 pub invariant-of-self : goal.invariant-of-self
 invariant-of-self c =
@@ -17,7 +17,7 @@ invariant-of-self c =
     let x = c.args.slot in
     let o = numbered_once (parts s) c.args.number.0 x (sound s) c.requires.place in
     let e : lists c.append.new.self ≡ cond c.append.result (appended (lists s.links) (2 * x.0 + 1) (virtual_to c.args.child)) (lists s.links) =
-    added c.append.result (lists s.links) (lists c.append.new.self) _ _ _ _ c.append.ensures.state c.virtual-list-list.ensures.answer c.virtual_to.ensures.answer in
+    added c.append.result (lists s.links) (lists c.append.new.self) _ _ _ _ c.append.ensures.state c.virtual_list-list.ensures.answer c.virtual_to.ensures.answer in
     let w = touched (parts s) x.0 (lists c.append.new.self) (cells c.append.new.self) (sound s) o.0 o.3
     (touch_maybe x.0 (lists s.links) _ (lists c.append.new.self) c.append.result (touch (lists s.links) x.0 (2 * x.0 + 1) _ (omega arith) (omega arith)) e) in
     (w.paired, (s.reserved, (w.counted, (w.roomy, (w.apart, (w.blank, tt))))))
@@ -29,8 +29,8 @@ returns c =
     let x = c.args.slot in
     let n = cells c.append.new.self in
     let e : lists c.append.new.self ≡ cond c.append.result (appended (lists s.links) (2 * x.0 + 1) (virtual_to c.args.child)) (lists s.links) =
-    added c.append.result (lists s.links) (lists c.append.new.self) _ _ _ _ c.append.ensures.state c.virtual-list-list.ensures.answer c.virtual_to.ensures.answer in
+    added c.append.result (lists s.links) (lists c.append.new.self) _ _ _ _ c.append.ensures.state c.virtual_list-list.ensures.answer c.virtual_to.ensures.answer in
     record {
-      answer = room_answer c.append.result _ _ _ c.append.ensures.answer c.virtual-list-list.ensures.inside;
+      answer = room_answer c.append.result _ _ _ c.append.ensures.answer c.virtual_list-list.ensures.inside;
       state = added_means (parts s) c.append.result _ (lists c.append.new.self) n _ e c.append.ensures.same (linked_packed (parts s) (sound s) c.args.number.0 x c.requires.place c.args.child n c.append.ensures.same);
     }

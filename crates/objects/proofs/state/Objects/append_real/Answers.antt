@@ -6,15 +6,15 @@ use Rattle.objects.proofs.Frame.{touch, touch_maybe}
 use Rattle.objects.proofs.Relink.{appended, added, added_means, room_answer, top_once, relinked_sound, linked_top_real}
 use Rattle.objects.proofs.state.Objects.append_real.Goals as goal
 
-pub real-list-list-requires : goal.real-list-list-requires
-real-list-list-requires c = record { within = (top_once (parts c.args.self.now) (sound c.args.self.now) c.args.slot c.requires.innermost).0 }
+pub real_list-list-requires : goal.real_list-list-requires
+real_list-list-requires c = record { within = (top_once (parts c.args.self.now) (sound c.args.self.now) c.args.slot c.requires.innermost).0 }
 
 pub invariant-of-self : goal.invariant-of-self
 invariant-of-self c =
     let s = c.args.self.now in
     let x = c.args.slot in
     let e : lists c.append.new.self ≡ cond c.append.result (appended (lists s.links) (2 * x.0) c.args.link) (lists s.links) =
-    added c.append.result (lists s.links) (lists c.append.new.self) _ _ _ _ c.append.ensures.state c.real-list-list.ensures.answer refl in
+    added c.append.result (lists s.links) (lists c.append.new.self) _ _ _ _ c.append.ensures.state c.real_list-list.ensures.answer refl in
     let w = relinked_sound (parts s) (sound s) x c.requires.innermost (lists c.append.new.self) (cells c.append.new.self)
     (touch_maybe x.0 (lists s.links) _ (lists c.append.new.self) c.append.result (touch (lists s.links) x.0 (2 * x.0) _ (omega arith) (omega arith)) e) in
     (w.paired, (s.reserved, (w.counted, (w.roomy, (w.apart, (w.blank, tt))))))
@@ -26,8 +26,8 @@ returns c =
     let x = c.args.slot in
     let n = cells c.append.new.self in
     let e : lists c.append.new.self ≡ cond c.append.result (appended (lists s.links) (2 * x.0) c.args.link) (lists s.links) =
-    added c.append.result (lists s.links) (lists c.append.new.self) _ _ _ _ c.append.ensures.state c.real-list-list.ensures.answer refl in
+    added c.append.result (lists s.links) (lists c.append.new.self) _ _ _ _ c.append.ensures.state c.real_list-list.ensures.answer refl in
     record {
-      answer = room_answer c.append.result _ _ _ c.append.ensures.answer c.real-list-list.ensures.inside;
+      answer = room_answer c.append.result _ _ _ c.append.ensures.answer c.real_list-list.ensures.inside;
       state = added_means (parts s) c.append.result _ (lists c.append.new.self) n _ e c.append.ensures.same (linked_top_real (parts s) (sound s) x c.requires.innermost c.args.link n c.append.ensures.same);
     }

@@ -6,11 +6,11 @@ use Rattle.objects.proofs.Frame.{Touch}
 use Rattle.objects.proofs.Relink.{pruned, pruned_is, pruned_touch, top_once, relinked_sound, cut_back}
 use Rattle.objects.proofs.state.Objects.cut_lists.Goals as goal
 
-pub real-list-first-requires : goal.real-list-first-requires
-real-list-first-requires c = record { within = (top_once (parts c.args.self.now) (sound c.args.self.now) c.args.slot c.requires.innermost).0 }
+pub real_list-first-requires : goal.real_list-first-requires
+real_list-first-requires c = record { within = (top_once (parts c.args.self.now) (sound c.args.self.now) c.args.slot c.requires.innermost).0 }
 
-pub virtual-list-second-requires : goal.virtual-list-second-requires
-virtual-list-second-requires c = record { within = (top_once (parts c.args.self.now) (sound c.args.self.now) c.args.slot c.requires.innermost).0 }
+pub virtual_list-second-requires : goal.virtual_list-second-requires
+virtual_list-second-requires c = record { within = (top_once (parts c.args.self.now) (sound c.args.self.now) c.args.slot c.requires.innermost).0 }
 
 pub invariant-of-self : goal.invariant-of-self
 invariant-of-self c =
@@ -19,7 +19,7 @@ invariant-of-self c =
     let ls = lists s.links in
     let ks = lists c.cut-2.new.self in
     let e : ks ≡ pruned ls x.0 c.args.reals c.args.virtuals =
-    pruned_is ls x.0 c.args.reals c.args.virtuals (lists c.cut.new.self) ks _ _ c.cut.ensures.state c.cut-2.ensures.state c.real-list-first.ensures.answer c.virtual-list-second.ensures.answer in
+    pruned_is ls x.0 c.args.reals c.args.virtuals (lists c.cut.new.self) ks _ _ c.cut.ensures.state c.cut-2.ensures.state c.real_list-first.ensures.answer c.virtual_list-second.ensures.answer in
     let w = relinked_sound (parts s) (sound s) x c.requires.innermost ks (cells c.cut-2.new.self) (subst (Touch x.0 ls) (sym e) (pruned_touch ls x.0 c.args.reals c.args.virtuals)) in
     (w.paired, (s.reserved, (w.counted, (w.roomy, (w.apart, (w.blank, tt))))))
 
@@ -31,5 +31,5 @@ returns c =
     let ls = lists s.links in
     let ks = lists c.cut-2.new.self in
     let e : ks ≡ pruned ls x.0 c.args.reals c.args.virtuals =
-    pruned_is ls x.0 c.args.reals c.args.virtuals (lists c.cut.new.self) ks _ _ c.cut.ensures.state c.cut-2.ensures.state c.real-list-first.ensures.answer c.virtual-list-second.ensures.answer in
+    pruned_is ls x.0 c.args.reals c.args.virtuals (lists c.cut.new.self) ks _ _ c.cut.ensures.state c.cut-2.ensures.state c.real_list-first.ensures.answer c.virtual_list-second.ensures.answer in
     record { state = cut_back (parts s) (sound s) x c.requires.innermost c.args.reals c.args.virtuals ks (cells c.cut-2.new.self) e (c.cut-2.ensures.same ∙ c.cut.ensures.same) }

@@ -9,6 +9,6 @@ returns c =
     let s = c.args.self.now in
     let x = c.args.slot in
     let e = get_or_read (vec_items s.extents) x.0 c.index.result.now (omega (arith, c.requires.within, s.roomy, s.extents.ok.0)) c.index.ensures nowhere in
-    let n = c.list-len.ensures.answer ∙ ap length c.real-list.ensures.links in
-    let m = c.list-len-2.ensures.answer ∙ ap length c.virtual-list.ensures.links in
+    let n = c.list_len.ensures.answer ∙ ap length c.real_list.ensures.links in
+    let m = c.list_len-2.ensures.answer ∙ ap length c.virtual_list.ensures.links in
     record { answer = λ i. record { slot = x; extent = e i; num_real_links = n i; num_virtual_links = m i } }

@@ -10,8 +10,8 @@ use Rattle.objects.proofs.state.Objects.push_opened.Goals as goal
 pub invariant-of-self : goal.invariant-of-self
 invariant-of-self c =
     let s = c.args.self.now in
-    let w = pushed_opened (parts s) (sound s) c.args.slot c.requires.loose c.args.extent (vec_items c.push-reserved.new.self) c.push-reserved.ensures.items in
-    (w.paired, ((omega (arith, s.reserved.0, c.push-reserved.ensures.capacity), s.reserved.1, s.reserved.2), (w.counted, (w.roomy, (w.apart, (w.blank, tt))))))
+    let w = pushed_opened (parts s) (sound s) c.args.slot c.requires.loose c.args.extent (vec_items c.push_reserved.new.self) c.push_reserved.ensures.items in
+    (w.paired, ((omega (arith, s.reserved.0, c.push_reserved.ensures.capacity), s.reserved.1, s.reserved.2), (w.counted, (w.roomy, (w.apart, (w.blank, tt))))))
 
 pub returns : goal.returns
 unfolding contents
@@ -22,7 +22,7 @@ returns c =
     record {
       state =
           same_contents
-          (laid_top (parts s) (sound s) x l c.args.extent (vec_items s.opened) (vec_items c.push-reserved.new.self) c.push-reserved.ensures.items l.not_open
+          (laid_top (parts s) (sound s) x l c.args.extent (vec_items s.opened) (vec_items c.push_reserved.new.self) c.push_reserved.ensures.items l.not_open
           ∙ ap (λ (o : Object). o ∷ stacked (vec_items s.extents) (lists s.links) (vec_items s.opened)) (blank_slot (lists s.links) x c.args.extent c.requires.blank))
           (frame_extent (vec_items s.extents) (lists s.links) (vec_items s.packed) x.0 c.args.extent l.not_packed) refl;
     }

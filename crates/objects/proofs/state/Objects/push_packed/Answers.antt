@@ -9,8 +9,8 @@ use Rattle.objects.proofs.state.Objects.push_packed.Goals as goal
 pub invariant-of-self : goal.invariant-of-self
 invariant-of-self c =
     let s = c.args.self.now in
-    let w = pushed_packed (parts s) (sound s) c.args.slot c.requires.loose c.args.extent (vec_items c.push-reserved.new.self) c.push-reserved.ensures.items in
-    (w.paired, ((s.reserved.0, omega (arith, s.reserved.1, c.push-reserved.ensures.capacity), s.reserved.2), (w.counted, (w.roomy, (w.apart, (w.blank, tt))))))
+    let w = pushed_packed (parts s) (sound s) c.args.slot c.requires.loose c.args.extent (vec_items c.push_reserved.new.self) c.push_reserved.ensures.items in
+    (w.paired, ((s.reserved.0, omega (arith, s.reserved.1, c.push_reserved.ensures.capacity), s.reserved.2), (w.counted, (w.roomy, (w.apart, (w.blank, tt))))))
 
 pub returns : goal.returns
 unfolding contents object_at
@@ -21,5 +21,5 @@ returns c =
     record {
       state =
           same_contents (frame_extent (vec_items s.extents) (lists s.links) (vec_items s.opened) x.0 c.args.extent l.not_open)
-          (laid_top (parts s) (sound s) x l c.args.extent (vec_items s.packed) (vec_items c.push-reserved.new.self) c.push-reserved.ensures.items l.not_packed) refl;
+          (laid_top (parts s) (sound s) x l c.args.extent (vec_items s.packed) (vec_items c.push_reserved.new.self) c.push_reserved.ensures.items l.not_packed) refl;
     }

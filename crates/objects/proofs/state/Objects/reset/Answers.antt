@@ -7,7 +7,7 @@ use Rattle.objects.proofs.state.Objects.reset.Goals as goal
 pub invariant-of-self : goal.invariant-of-self
 invariant-of-self c =
     let s = c.args.self.now in
-    let w = unused_sound _ (idle_unused (vec_items s.extents) _ _ _ _ (vec_len s.extents) (cells c.clear-all.new.self) (length (lists s.links)) c.clear-all.ensures.state s.paired (omega (arith, s.extents.ok.0)) c.clear.ensures.items c.clear-2.ensures.items c.clear-3.ensures.items) in (
+    let w = unused_sound _ (idle_unused (vec_items s.extents) _ _ _ _ (vec_len s.extents) (cells c.clear_all.new.self) (length (lists s.links)) c.clear_all.ensures.state s.paired (omega (arith, s.extents.ok.0)) c.clear.ensures.items c.clear-2.ensures.items c.clear-3.ensures.items) in (
       w.paired,
       ((omega (arith, s.reserved.0, c.clear.ensures.capacity), omega (arith, s.reserved.1, c.clear-2.ensures.capacity), omega (arith, s.reserved.2, c.clear-3.ensures.capacity)), (w.counted, (w.roomy, (w.apart, (w.blank, tt))))),
     )
@@ -16,4 +16,4 @@ pub returns : goal.returns
 unfolding contents
 returns c =
     let s = c.args.self.now in
-    record { state = unused_means _ _ _ (idle_unused (vec_items s.extents) _ _ _ _ (vec_len s.extents) (cells c.clear-all.new.self) (length (lists s.links)) c.clear-all.ensures.state s.paired (omega (arith, s.extents.ok.0)) c.clear.ensures.items c.clear-2.ensures.items c.clear-3.ensures.items) refl c.clear-all.ensures.same }
+    record { state = unused_means _ _ _ (idle_unused (vec_items s.extents) _ _ _ _ (vec_len s.extents) (cells c.clear_all.new.self) (length (lists s.links)) c.clear_all.ensures.state s.paired (omega (arith, s.extents.ok.0)) c.clear.ensures.items c.clear-2.ensures.items c.clear-3.ensures.items) refl c.clear_all.ensures.same }

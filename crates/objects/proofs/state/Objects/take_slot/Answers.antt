@@ -16,16 +16,16 @@ invariant-of-self c =
 pub invariant-of-self-then-self-len : goal.invariant-of-self-then-self-len
 invariant-of-self-then-self-len c =
     let s = c.args.self.now in
-    let n = pop_is _ _ _ _ None s.released.ok.0 c.pop.new.self.ok.0 c.in-default.ensures.items c.in-default.ensures.cases in
+    let n = pop_is _ _ _ _ None s.released.ok.0 c.pop.new.self.ok.0 c.in_default.ensures.items c.in_default.ensures.cases in
     let w = popped_released (parts s) (sound s) (vec_items c.pop.new.self) None n in
-    (w.paired, ((s.reserved.0, s.reserved.1, omega (arith, s.reserved.2, c.in-default.ensures.capacity)), (w.counted, (w.roomy, (w.apart, (w.blank, tt))))))
+    (w.paired, ((s.reserved.0, s.reserved.1, omega (arith, s.reserved.2, c.in_default.ensures.capacity)), (w.counted, (w.roomy, (w.apart, (w.blank, tt))))))
 
 pub invariant-of-self-2 : goal.invariant-of-self-2
 invariant-of-self-2 c =
     let s = c.args.self.now in
-    let n = pop_is _ _ _ _ None s.released.ok.0 c.pop.new.self.ok.0 c.in-default.ensures.items c.in-default.ensures.cases in
+    let n = pop_is _ _ _ _ None s.released.ok.0 c.pop.new.self.ok.0 c.in_default.ensures.items c.in_default.ensures.cases in
     let w = new_sound (parts s) (vec_items c.pop.new.self) (sound s) (omega (arith, c.len.ensures)) (n.1 ∙ sym n.0) in
-    (w.paired, ((s.reserved.0, s.reserved.1, omega (arith, s.reserved.2, c.in-default.ensures.capacity)), (w.counted, (w.roomy, (w.apart, (w.blank, tt))))))
+    (w.paired, ((s.reserved.0, s.reserved.1, omega (arith, s.reserved.2, c.in_default.ensures.capacity)), (w.counted, (w.roomy, (w.apart, (w.blank, tt))))))
 
 pub returns-in-Some : goal.returns-in-Some
 unfolding contents
@@ -47,7 +47,7 @@ unfolding contents
 returns-then-self-len c =
     let s = c.args.self.now in
     let ys = vec_items c.pop.new.self in
-    let n = pop_is _ _ _ _ None s.released.ok.0 c.pop.new.self.ok.0 c.in-default.ensures.items c.in-default.ensures.cases in
+    let n = pop_is _ _ _ _ None s.released.ok.0 c.pop.new.self.ok.0 c.in_default.ensures.items c.in_default.ensures.cases in
     record {
       free = new_free (parts s) ys n.0 false (le-ltb s.used (vec_len s.extents) (omega (arith, c.len.ensures)));
       answer = tt;
@@ -61,7 +61,7 @@ unfolding contents
 returns c =
     let s = c.args.self.now in
     let ys = vec_items c.pop.new.self in
-    let n = pop_is _ _ _ _ None s.released.ok.0 c.pop.new.self.ok.0 c.in-default.ensures.items c.in-default.ensures.cases in
+    let n = pop_is _ _ _ _ None s.released.ok.0 c.pop.new.self.ok.0 c.in_default.ensures.items c.in_default.ensures.cases in
     record {
       free = new_free (parts s) ys n.0 true (lt-ltb s.used (vec_len s.extents) (omega (arith, c.len.ensures)));
       answer = new_next (parts s) ys n.0;

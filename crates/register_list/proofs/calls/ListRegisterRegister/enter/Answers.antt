@@ -6,10 +6,10 @@ use Rattle.register_list.specs.Member.{found_among, missing_among, entered_inser
 use Rattle.register_list.proofs.Order.{ordered_inserted}
 use Rattle.register_list.proofs.calls.ListRegisterRegister.enter.Goals as goal
 
-pub returns-in-default : goal.returns-in-default
-returns-in-default c =
+pub returns-in_default : goal.returns-in_default
+returns-in_default c =
     let xs = vec_items c.args.self.now.rows in
-    let yes = found_among xs _ _ (rw c.deref.ensures.value at c.in-default.ensures.answer) in
+    let yes = found_among xs _ _ (rw c.deref.ensures.value at c.in_default.ensures.answer) in
     record { answer = sym (fits_held (pairs xs) _ _ _ yes); register = entered_held (pairs xs) _ _ _ yes }
 
 pub returns-then-len-self : goal.returns-then-len-self

@@ -16,7 +16,7 @@ returns-in-Ok c =
     let f = rw c.deref.ensures.value at c.in-Ok.ensures.answer in
     record { register = rw c.remove.ensures.items (struck_removed xs _ _ _ c.args.self.now.sorted f) }
 
-pub returns-in-default : goal.returns-in-default
-returns-in-default c =
+pub returns-in_default : goal.returns-in_default
+returns-in_default c =
     let xs = vec_items c.args.self.now.rows in
-    record { register = struck_none (pairs xs) _ _ _ (missing_among xs _ _ (rw c.deref.ensures.value at c.in-default.ensures.answer)) }
+    record { register = struck_none (pairs xs) _ _ _ (missing_among xs _ _ (rw c.deref.ensures.value at c.in_default.ensures.answer)) }

@@ -10,11 +10,11 @@ use Rattle.register_table.proofs.calls.TableRegisterRegister.enter.Goals as goal
 abbrev pair : ℕ → ObjIdx → Entry
 pair h n = record { hash = h; number = n }
 
-pub returns-in-default : goal.returns-in-default
-returns-in-default c =
+pub returns-in_default : goal.returns-in_default
+returns-in_default c =
     let cs = c.args.self.now.cells.items in
-    let f = rw c.deref.ensures.value at c.in-default.ensures in
-    let held = among_some cs c.args.hash c.args.number.0 c.in-default.field-0 f.0 f.1 in
+    let f = rw c.deref.ensures.value at c.in_default.ensures in
+    let held = among_some cs c.args.hash c.args.number.0 c.in_default.field-0 f.0 f.1 in
     record { answer = sym (fits_held (entries cs) _ _ _ held); register = entered_held (entries cs) _ _ _ held }
 
 pub returns-then-self : goal.returns-then-self

@@ -6,20 +6,20 @@ use Rattle.register_table.specs.Cells.{entries, filled, times, Reached}
 use Rattle.register_table.proofs.Change.{among_none, out}
 use Rattle.register_table.proofs.calls.TableRegisterRegister.strike.Goals as goal
 
-pub returns-in-default : goal.returns-in-default
-returns-in-default c =
+pub returns-in_default : goal.returns-in_default
+returns-in_default c =
     let cs = c.args.self.now.cells.items in
-    let f = rw c.deref.ensures.value at c.in-default.ensures in
+    let f = rw c.deref.ensures.value at c.in_default.ensures in
     record { register = struck_none (entries cs) _ _ _ (among_none cs c.args.hash c.args.number.0 f.2) }
 
-pub overflow-sub-self : goal.overflow-sub-self
-overflow-sub-self c =
-    let t = out c.args.self.now.cells.items c.vacate.new.cells c.in-Ok.at c.args.hash c.args.number.0 c.args.self.now.once (rw c.deref.ensures.value at c.in-Ok.ensures) (rw c.deref-mut.ensures.value at c.vacate.ensures.pairs) in
+pub overflow_sub-self : goal.overflow_sub-self
+overflow_sub-self c =
+    let t = out c.args.self.now.cells.items c.vacate.new.cells c.in-Ok.at c.args.hash c.args.number.0 c.args.self.now.once (rw c.deref.ensures.value at c.in-Ok.ensures) (rw c.deref_mut.ensures.value at c.vacate.ensures.pairs) in
     omega (arith, t.fewer, c.args.self.now.counted)
 
 pub invariant-of-self : goal.invariant-of-self
 invariant-of-self c =
-    let t = out c.args.self.now.cells.items c.vacate.new.cells c.in-Ok.at c.args.hash c.args.number.0 c.args.self.now.once (rw c.deref.ensures.value at c.in-Ok.ensures) (rw c.deref-mut.ensures.value at c.vacate.ensures.pairs) in
+    let t = out c.args.self.now.cells.items c.vacate.new.cells c.in-Ok.at c.args.hash c.args.number.0 c.args.self.now.once (rw c.deref.ensures.value at c.in-Ok.ensures) (rw c.deref_mut.ensures.value at c.vacate.ensures.pairs) in
     let same = with_items_is c.args.self.now.cells c.vacate.new.cells (omega arith) in (
       λ k. subst (λ xs. Reached xs k) (sym same) (c.vacate.ensures.reached k),
       (λ g m. subst (λ xs. times xs g m ≤ 1) (sym same) (t.once g m), (omega (arith, ap filled same, t.fewer, c.args.self.now.counted), (omega arith, (omega arith, tt)))),
@@ -27,6 +27,6 @@ invariant-of-self c =
 
 pub returns : goal.returns
 returns c =
-    let t = out c.args.self.now.cells.items c.vacate.new.cells c.in-Ok.at c.args.hash c.args.number.0 c.args.self.now.once (rw c.deref.ensures.value at c.in-Ok.ensures) (rw c.deref-mut.ensures.value at c.vacate.ensures.pairs) in
+    let t = out c.args.self.now.cells.items c.vacate.new.cells c.in-Ok.at c.args.hash c.args.number.0 c.args.self.now.once (rw c.deref.ensures.value at c.in-Ok.ensures) (rw c.deref_mut.ensures.value at c.vacate.ensures.pairs) in
     let same = with_items_is c.args.self.now.cells c.vacate.new.cells (omega arith) in
     record { register = ap (λ xs. pairs_of (entries xs) c.args.self.now.capacity) same ∙ t.strikes _ }

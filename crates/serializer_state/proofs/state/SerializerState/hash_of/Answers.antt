@@ -13,5 +13,5 @@ unfolding hash
 returns c =
     let ls = real_of (chosen c.args.which (contents c.args.self.now.objects)) in
     record {
-      answer = c.finish.ensures.answer ∙ c.feed.ensures.state ∙ ap (λ (n : ℕ). hashed_from n (links_feed ls)) (c.hash-of-hasher.ensures.answer ∙ ap (λ (bs : List ℕ). hashed_from offset_basis (take 128 bs)) (c.part-of.ensures.answer ∙ ap (λ (m : List ℕ). part m c.args.at.head c.args.at.tail) c.deref.ensures.value));
+      answer = c.finish.ensures.answer ∙ c.feed.ensures.state ∙ ap (λ (n : ℕ). hashed_from n (links_feed ls)) (c.hash_of-hasher.ensures.answer ∙ ap (λ (bs : List ℕ). hashed_from offset_basis (take 128 bs)) (c.part_of.ensures.answer ∙ ap (λ (m : List ℕ). part m c.args.at.head c.args.at.tail) c.deref.ensures.value));
     }
