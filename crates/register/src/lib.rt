@@ -35,7 +35,7 @@ pub trait Register {
 // The least number held under the hash whose entry in the table is the key, or none. A held number past the
 // table's end has no entry, and those after it have none either.
 pub fn least_match<R: Register>(register: &R, hash: u64, table: &[u32], key: u32) -> Option<ObjIdx>
-    ensures answer { LeastMatch (holds register.now) hash table.now key result }
+    ensures answer { LeastMatch (R.Register.holds register.now) hash table.now key result }
 {
     let mut from = ObjIdx(0);
     while let Some(number) = register.next(hash, from) {
