@@ -5,8 +5,8 @@ use Rattle.register_table.specs.declared.cells.Cell.TheVariants.{Free}
 use Rattle.register_table.proofs.Change.{free_count, free_reached, free_entries}
 use Rattle.register_table.proofs.TableRegister.new.Goals as goal
 
-pub invariant-of-result : goal.invariant-of-result
-invariant-of-result c =
+pub invariant_of-result : goal.invariant_of-result
+invariant_of-result c =
     let n = c.max.result in
     let all : c.in_ok-cells.cells.items ≡ replicate n Free = c.in_ok-cells.ensures.items-if-clones-equal (λ y e. e) in
     let long = c.in_ok-cells.ensures.len in (

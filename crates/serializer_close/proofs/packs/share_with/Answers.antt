@@ -5,8 +5,8 @@ use Rattle.serializer_state.specs.Extents.{within, lying}
 use Rattle.serializer_close.proofs.Sharing.{one_open, shared, shares_fit}
 use Rattle.serializer_close.proofs.packs.share_with.Goals as goal
 
-pub invariant-of-s : goal.invariant-of-s
-invariant-of-s c =
+pub invariant_of-s : goal.invariant_of-s
+invariant_of-s c =
     let x = c.args.s.now in
     let n = vec_len x.memory in
     let k = c.args.number.0 in

@@ -4,8 +4,8 @@ use Rattle.serializer_state.specs.Extents.{within, lying}
 use Rattle.serializer_link.proofs.Ordering.{kept_inside, kept_lies}
 use Rattle.serializer_link.proofs.repacks.order.Goals as goal
 
-pub invariant-of-s : goal.invariant-of-s
-invariant-of-s c =
+pub invariant_of-s : goal.invariant_of-s
+invariant_of-s c =
     let s = c.args.s.now in
     let n = vec_len s.memory in (
       s.sized,

@@ -3,4 +3,4 @@ use Rattle.links.specs.Walk.{hop}
 use Rattle.links.proofs.chains.Chain.cell.Given as goal
 
 abbrev pub invariant-loop-i : goal.invariant-loop-i
-invariant-loop-i l = l.at ≡ hop (vec_items l.nexts) l.initial.at l.-i
+invariant-loop-i l = l.at ≡ hop (vec_items l.nexts) l.initial.at l._i

@@ -14,13 +14,13 @@ returns c =
     let n = c.args.n in
     let ends : c.if-n-eq0.last ≡ (hop ns a.first (n - 1), hop ns a.first n) =
     elim c.if-n-eq0.branch [
-      | then-n-eq0 w ↦ w.last_is ∙ ap {B = ℕ × ℕ} (λ (m : ℕ). (hop ns a.first (m - 1), hop ns a.first m)) (sym w.if-n-eq0.true)
+      | then-n-eq0 w ↦ w.last-is ∙ ap {B = ℕ × ℕ} (λ (m : ℕ). (hop ns a.first (m - 1), hop ns a.first m)) (sym w.if-n-eq0.true)
       | else-n-eq0 w ↦
           let last : w.cell-last.result ≡ hop ns a.first (n - 1) = w.cell-last.ensures.answer in
           let next : w.index.result.now ≡ hop ns a.first n =
           get_or_read_under ns w.cell-last.result (vec_len v) w.index.result.now 0 w.index.ensures (omega (arith, c.requires.inside (n - 1) (omega arith), v.ok.0)) v.ok.0
           ∙ ap (λ (k : ℕ). get_or ns k 0) last ∙ sym (hop_from_last ns a.first n (omega arith)) in
-          w.last_is ∙ (λ i. (last i, next i))
+          w.last-is ∙ (λ i. (last i, next i))
     ] in
     record {
       front = ap {B = Chain} (λ (p : ℕ × ℕ). record { first = a.first; last = p.0; count = n }) ends;

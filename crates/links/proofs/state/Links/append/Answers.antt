@@ -3,15 +3,15 @@ use Rattle.links.specs.Meaning.{lists, cells}
 use Rattle.links.proofs.Reading.{free_inside, read_last, counts_fit}
 use Rattle.links.proofs.Append.{refuse_list, refuse_full, accept, free_in, append_wired, append_lists}
 use Rattle.links.proofs.state.Links.append.Goals as goal
-use Rattle.links.proofs.state.Links.append.Goals.{then-list_len-via-then-list_len, then-list_len-via-else-list_len+then-self-eq0}
+use Rattle.links.proofs.state.Links.append.Goals.{then-list-len-via-then-list-len, then-list-len-via-else-list-len+then-self-eq0}
 
-pub returns-then-list_len : goal.returns-then-list_len
-returns-then-list_len c =
+pub returns-then-list-len : goal.returns-then-list-len
+returns-then-list-len c =
     record {
       answer =
-          elim c.then-list_len.branch [
-            | then-list_len-via-then-list_len w ↦ refuse_list c.args.self.now c.args.list (omega arith)
-            | then-list_len-via-else-list_len+then-self-eq0 w ↦ refuse_full c.args.self.now c.args.list (omega arith)
+          elim c.then-list-len.branch [
+            | then-list-len-via-then-list-len w ↦ refuse_list c.args.self.now c.args.list (omega arith)
+            | then-list-len-via-else-list-len+then-self-eq0 w ↦ refuse_full c.args.self.now c.args.list (omega arith)
           ];
       state = refl;
       same = refl;
@@ -32,8 +32,8 @@ join-requires c =
       fits = omega (arith, counts_fit s c.args.list x (record { within = omega arith; read = c.index-chain.ensures }), ap (λ t. t.count) c.split.ensures.front, s.nexts.small, s.nexts.ok.1);
     }
 
-pub invariant-of-self : goal.invariant-of-self
-invariant-of-self c =
+pub invariant_of-self : goal.invariant_of-self
+invariant_of-self c =
     let s = c.args.self.now in
     let w = append_wired s c.args.list c.index-chain.result.now c.split.result.0 c.split.result.1 c.join.result (vec_items c.join.new.nexts)
     (record { within = omega arith; read = c.index-chain.ensures }) (omega arith) c.split.ensures.front c.split.ensures.back c.join.ensures.chain c.join.ensures.nexts in

@@ -31,8 +31,8 @@ join-requires c =
       );
     }
 
-pub invariant-of-self : goal.invariant-of-self
-invariant-of-self c =
+pub invariant_of-self : goal.invariant_of-self
+invariant_of-self c =
     let s = c.args.self.now in
     let w = all_wired s c.args.to c.args.from c.index-front.result.now c.index-back.result.now c.join.result (vec_items c.join.new.nexts)
     (record { within = omega arith; read = c.index-front.ensures }) (record { within = omega arith; read = c.index-back.ensures }) (omega arith) c.join.ensures.chain c.join.ensures.nexts in

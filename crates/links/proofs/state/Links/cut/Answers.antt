@@ -4,8 +4,8 @@ use Rattle.links.proofs.Reading.{no_list, a_list, read_inside, free_last, counts
 use Rattle.links.proofs.Cut.{cut_no_list, cut_none, cut_wired, cut_lists}
 use Rattle.links.proofs.state.Links.cut.Goals as goal
 
-pub returns-then-list_len : goal.returns-then-list_len
-returns-then-list_len c =
+pub returns-then-list-len : goal.returns-then-list-len
+returns-then-list-len c =
     let s = c.args.self.now in
     record { answer = no_list s c.args.list (omega arith); state = cut_no_list s c.args.list _ (omega arith); same = refl }
 
@@ -33,8 +33,8 @@ join-self-requires c =
       fits = omega (arith, counts_fit s c.args.list c.index-chain.result.now (record { within = omega arith; read = c.index-chain.ensures }), ap (λ t. t.count) c.split.ensures.back, s.nexts.small, s.nexts.ok.1);
     }
 
-pub invariant-of-self : goal.invariant-of-self
-invariant-of-self c =
+pub invariant_of-self : goal.invariant_of-self
+invariant_of-self c =
     let s = c.args.self.now in
     let w = cut_wired s c.args.list c.args.n c.index-chain.result.now c.split.result.0 c.split.result.1 c.join-self.result (vec_items c.join-self.new.nexts)
     (record { within = omega arith; read = c.index-chain.ensures }) (omega arith) c.split.ensures.front c.split.ensures.back c.join-self.ensures.chain c.join-self.ensures.nexts in

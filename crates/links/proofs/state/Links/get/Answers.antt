@@ -2,8 +2,8 @@ use Rattle.std.proofs.Common.{◌≡◌, ℕ, get_or, subst, arith}
 use Rattle.links.proofs.Reading.{links_of, get_none, get_past, get_some, read_inside}
 use Rattle.links.proofs.state.Links.get.Goals as goal
 
-pub returns-then-list_len : goal.returns-then-list_len
-returns-then-list_len c = record { answer = get_none c.args.self.now c.args.list c.args.i (omega arith) }
+pub returns-then-list-len : goal.returns-then-list-len
+returns-then-list-len c = record { answer = get_none c.args.self.now c.args.list c.args.i (omega arith) }
 
 pub returns-then-i-chain : goal.returns-then-i-chain
 returns-then-i-chain c =

@@ -19,8 +19,8 @@ loop-i-preserved c =
           (ap (λ (l : List ℕ). get_or l i 0) c.push_reserved.ensures.items ∙ get_or_push ns (i + 1) 0 i len),
     )
 
-pub invariant-of-result : goal.invariant-of-result
-invariant-of-result c =
+pub invariant_of-result : goal.invariant_of-result
+invariant_of-result c =
     let ns = vec_items c.loop-i.nexts in
     let free : Chain = record { first = 0; last = c.saturating_sub.result; count = c.args.cell_count } in
     let are : vec_items c.in_ok-chains.chains ≡ replicate c.args.list_count no_chain = c.in_ok-chains.ensures.items-if-clones-equal (λ y h. h) in

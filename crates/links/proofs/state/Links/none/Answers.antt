@@ -6,8 +6,8 @@ use Rattle.links.proofs.Wiring.{Wired}
 use Rattle.links.proofs.Fresh.{fresh_wired}
 use Rattle.links.proofs.state.Links.none.Goals as goal
 
-pub invariant-of-result : goal.invariant-of-result
-invariant-of-result c =
+pub invariant_of-result : goal.invariant_of-result
+invariant_of-result c =
     let ns = vec_items c.new-2.result in
     let w : Wired ns (no_chain ∷ vec_items c.new-3.result) =
     subst (λ (l : List Chain). Wired ns (no_chain ∷ l)) (sym c.new-3.ensures.items)

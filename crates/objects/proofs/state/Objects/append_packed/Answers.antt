@@ -11,8 +11,8 @@ use Rattle.objects.proofs.state.Objects.append_packed.Goals as goal
 pub virtual_list-list-requires : goal.virtual_list-list-requires
 virtual_list-list-requires c = record { within = (numbered_once (parts c.args.self.now) c.args.number.0 c.args.slot (sound c.args.self.now) c.requires.place).0 }
 
-pub invariant-of-self : goal.invariant-of-self
-invariant-of-self c =
+pub invariant_of-self : goal.invariant_of-self
+invariant_of-self c =
     let s = c.args.self.now in
     let x = c.args.slot in
     let o = numbered_once (parts s) c.args.number.0 x (sound s) c.requires.place in

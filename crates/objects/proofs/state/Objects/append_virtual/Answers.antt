@@ -10,8 +10,8 @@ use Rattle.objects.proofs.state.Objects.append_virtual.Goals as goal
 pub virtual_list-list-requires : goal.virtual_list-list-requires
 virtual_list-list-requires c = record { within = (top_once (parts c.args.self.now) (sound c.args.self.now) c.args.slot c.requires.innermost).0 }
 
-pub invariant-of-self : goal.invariant-of-self
-invariant-of-self c =
+pub invariant_of-self : goal.invariant_of-self
+invariant_of-self c =
     let s = c.args.self.now in
     let x = c.args.slot in
     let e : lists c.append.new.self ≡ cond c.append.result (appended (lists s.links) (2 * x.0 + 1) (virtual_to c.args.child)) (lists s.links) =

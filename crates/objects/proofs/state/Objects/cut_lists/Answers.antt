@@ -12,8 +12,8 @@ real_list-first-requires c = record { within = (top_once (parts c.args.self.now)
 pub virtual_list-second-requires : goal.virtual_list-second-requires
 virtual_list-second-requires c = record { within = (top_once (parts c.args.self.now) (sound c.args.self.now) c.args.slot c.requires.innermost).0 }
 
-pub invariant-of-self : goal.invariant-of-self
-invariant-of-self c =
+pub invariant_of-self : goal.invariant_of-self
+invariant_of-self c =
     let s = c.args.self.now in
     let x = c.args.slot in
     let ls = lists s.links in

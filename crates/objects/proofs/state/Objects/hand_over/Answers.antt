@@ -15,8 +15,8 @@ virtual_list-to-requires c = record { within = (numbered_once (parts c.args.self
 pub virtual_list-from-requires : goal.virtual_list-from-requires
 virtual_list-from-requires c = record { within = (top_once (parts c.args.self.now) (sound c.args.self.now) c.args.slot c.requires.innermost).0 }
 
-pub invariant-of-self : goal.invariant-of-self
-invariant-of-self c =
+pub invariant_of-self : goal.invariant_of-self
+invariant_of-self c =
     let s = c.args.self.now in
     let n = cells c.append_all.new.self in
     let e : lists c.append_all.new.self ≡ merged (lists s.links) c.args.twin.0 c.args.slot.0 =

@@ -5,8 +5,8 @@ use Rattle.objects.proofs.Sound.{sound}
 use Rattle.objects.proofs.Stack.{pop_is, first_is, behind_is, same_contents, popped_packed, loose_packed}
 use Rattle.objects.proofs.state.Objects.pop_packed.Goals as goal
 
-pub invariant-of-self : goal.invariant-of-self
-invariant-of-self c =
+pub invariant_of-self : goal.invariant_of-self
+invariant_of-self c =
     let s = c.args.self.now in
     let e = pop_is _ _ _ _ c.pop.result s.packed.ok.0 c.pop.new.self.ok.0 c.pop.ensures.items c.pop.ensures.cases in
     let w = popped_packed (parts s) (sound s) (vec_items c.pop.new.self) c.pop.result e in

@@ -7,8 +7,8 @@ use Rattle.objects.proofs.Frame.{frame_extent, blank_slot}
 use Rattle.objects.proofs.Stack.{same_contents, pushed_opened, laid_top}
 use Rattle.objects.proofs.state.Objects.push_opened.Goals as goal
 
-pub invariant-of-self : goal.invariant-of-self
-invariant-of-self c =
+pub invariant_of-self : goal.invariant_of-self
+invariant_of-self c =
     let s = c.args.self.now in
     let w = pushed_opened (parts s) (sound s) c.args.slot c.requires.loose c.args.extent (vec_items c.push_reserved.new.self) c.push_reserved.ensures.items in
     (w.paired, ((omega (arith, s.reserved.0, c.push_reserved.ensures.capacity), s.reserved.1, s.reserved.2), (w.counted, (w.roomy, (w.apart, (w.blank, tt))))))

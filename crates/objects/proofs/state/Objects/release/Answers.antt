@@ -5,8 +5,8 @@ use Rattle.objects.proofs.Sound.{sound}
 use Rattle.objects.proofs.Release.{emptied, emptied_is, released_sound, released_means}
 use Rattle.objects.proofs.state.Objects.release.Goals as goal
 
-pub invariant-of-self : goal.invariant-of-self
-invariant-of-self c =
+pub invariant_of-self : goal.invariant_of-self
+invariant_of-self c =
     let s = c.args.self.now in
     let x = c.args.slot in
     let f : lists c.clear-2.new.self ≡ emptied (lists s.links) x.0 =

@@ -4,8 +4,8 @@ use Rattle.objects.specs.Contents.{contents}
 use Rattle.objects.proofs.Fresh.{idle_unused, unused_sound, unused_means}
 use Rattle.objects.proofs.state.Objects.reset.Goals as goal
 
-pub invariant-of-self : goal.invariant-of-self
-invariant-of-self c =
+pub invariant_of-self : goal.invariant_of-self
+invariant_of-self c =
     let s = c.args.self.now in
     let w = unused_sound _ (idle_unused (vec_items s.extents) _ _ _ _ (vec_len s.extents) (cells c.clear_all.new.self) (length (lists s.links)) c.clear_all.ensures.state s.paired (omega (arith, s.extents.ok.0)) c.clear.ensures.items c.clear-2.ensures.items c.clear-3.ensures.items) in (
       w.paired,

@@ -20,8 +20,8 @@ returns-then-len-self c =
     let full : c.args.self.now.capacity ≤ length (pairs xs) = omega arith in
     record { answer = sym (fits_full (pairs xs) _ _ _ no full); register = entered_full (pairs xs) _ _ _ no full }
 
-pub invariant-of-self : goal.invariant-of-self
-invariant-of-self c =
+pub invariant_of-self : goal.invariant_of-self
+invariant_of-self c =
     let m = rw c.deref.ensures.value at c.in-Err.ensures.answer in
     (rw c.put.ensures.items (ordered_inserted _ _ _ c.args.self.now.sorted m), (omega arith, (omega arith, tt)))
 

@@ -5,8 +5,8 @@ use Rattle.register_list.specs.Member.{missing_among, struck_removed}
 use Rattle.register_list.proofs.Order.{ordered_removed}
 use Rattle.register_list.proofs.calls.ListRegisterRegister.strike.Goals as goal
 
-pub invariant-of-self : goal.invariant-of-self
-invariant-of-self c =
+pub invariant_of-self : goal.invariant_of-self
+invariant_of-self c =
     let f = rw c.deref.ensures.value at c.in-Ok.ensures.answer in
     (rw c.remove.ensures.items (ordered_removed _ _ c.args.self.now.sorted f.within), (omega arith, (omega arith, tt)))
 

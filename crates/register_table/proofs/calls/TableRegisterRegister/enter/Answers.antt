@@ -25,8 +25,8 @@ returns-then-self c =
     let at-capacity : c.args.self.now.capacity ≤ length (entries cs) = omega (arith, length_entries cs, c.args.self.now.counted, c.if-self.true) in
     record { answer = sym (fits_full (entries cs) _ _ _ none at-capacity); register = entered_full (entries cs) _ _ _ none at-capacity }
 
-pub invariant-of-self : goal.invariant-of-self
-invariant-of-self c =
+pub invariant_of-self : goal.invariant_of-self
+invariant_of-self c =
     let t = put c.args.self.now.cells.items c.in-Err.at (pair c.args.hash c.args.number) c.args.self.now.reached c.args.self.now.once (rw c.deref.ensures.value at c.in-Err.ensures) in
     (t.reached, (t.once, (omega (arith, t.more, c.args.self.now.counted), (omega arith, (omega arith, tt)))))
 

@@ -17,8 +17,8 @@ index-link-requires c = omega (arith, c.args.self.now.inside 0 (omega arith), c.
 pub index-requires : goal.index-requires
 index-requires c = c.args.self.now.inside 0 (omega arith)
 
-pub invariant-of-self : goal.invariant-of-self
-invariant-of-self c =
+pub invariant_of-self : goal.invariant_of-self
+invariant_of-self c =
     let w = c.args.self.now in
     (step_inside w.owner.now w.cell w.left c.index.result.now (omega arith) w.inside c.index.ensures, tt)
 
