@@ -4,7 +4,7 @@ ghost use Rattle.std.specs.Option.{option_map};
 ghost use Rattle.scalar.specs.Place.{part};
 ghost use Rattle.model.specs.State.{index};
 ghost use Rattle.model.specs.Declining.{nothing_open};
-ghost use Rattle.model.specs.Closing.{twin as least-twin};
+ghost use Rattle.model.specs.Closing.{twin as least_twin};
 ghost use Rattle.model.specs.Reading.{real_of};
 ghost use Rattle.objects.specs.Change.{first};
 ghost use Rattle.serializer_state.specs.View.{view};
@@ -40,7 +40,7 @@ pub(crate) fn find_twin<R: Register>(
     at: Extent,
 ) -> Option<ObjIdx>
     requires opened { nothing_open (view s.now) ≡ false }
-    ensures answer { result ≡ option_map index (least-twin (view s.now).memory (R.Register.holds register.now) hash (part (view s.now).memory at.head at.tail) (real_of (first (view s.now).opened)) (view s.now).packed) }
+    ensures answer { result ≡ option_map index (least_twin (view s.now).memory (R.Register.holds register.now) hash (part (view s.now).memory at.head at.tail) (real_of (first (view s.now).opened)) (view s.now).packed) }
 {
     let mut from = ObjIdx(0);
     while let Some(number) = register.next(hash, from) {

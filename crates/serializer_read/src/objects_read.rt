@@ -1,7 +1,7 @@
 // Packed objects, read by their numbers.
 ghost use Rattle.std.specs.Prelude.{◌≡◌};
 ghost use Rattle.std.specs.Option.{option_map};
-ghost use Rattle.model.specs.Reading.{object as object-seen};
+ghost use Rattle.model.specs.Reading.{object as object_seen};
 ghost use Rattle.serializer_state.specs.View.{view};
 ghost use Rattle.serializer_read.specs.Reads.{seen_in};
 
@@ -13,7 +13,7 @@ use serializer_state::SerializerState;
 
 // The packed object of a number, if there is one.
 pub fn object(s: &SerializerState, number: ObjIdx) -> Option<ObjectView<'_>>
-    ensures answer { option_map seen_in result ≡ object-seen number (view s.now) }
+    ensures answer { option_map seen_in result ≡ object_seen number (view s.now) }
 {
     let Some(outline) = s.objects.outline(Which::Numbered(number)) else {
         return None;
