@@ -20,7 +20,7 @@ use Rattle.model.specs.Run.{Call, Beginning, run}
 use Rattle.model.specs.Run.Call.{End}
 use Rattle.model.specs.Run.Answer.{Bytes}
 use Rattle.model.specs.Moments.{at, span}
-use Rattle.model.specs.Offsets.{place, distance, shown, FieldOf, from, to, Inside, MeetsNone, ReadsBack, contents, LawC}
+use Rattle.model.specs.Offsets.{distance, shown, FieldOf, from, to, Inside, MeetsNone, ReadsBack, contents, LawC}
 use Rattle.model.proofs.Split.{by_test, if_false}
 use Rattle.model.proofs.Memory.{part_inside, get_d_part}
 use Rattle.model.proofs.Number.{none_some, some_inj, nth_below}
