@@ -1,4 +1,6 @@
 // What can be read of a serializer: its packed objects with their links, and the output.
+#![tactic(auto)]
+
 pub mod objects_read;
 pub mod output;
 pub mod view;

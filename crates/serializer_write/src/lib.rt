@@ -1,4 +1,6 @@
 // Opening objects, and bytes that are taken, written and read: at head, and at a place.
+#![tactic(auto)]
+
 pub mod assigns;
 pub mod bytes;
 pub mod opens;
