@@ -3,7 +3,7 @@ use serializer_state::SerializerState;
 
 pub mod begins;
 pub mod closes;
-pub mod links;
+pub mod linking;
 pub mod opens;
 pub mod questions;
 pub mod reads;
