@@ -1,5 +1,5 @@
 -- A link more: a cell goes from the free chain to the end of a list.
-use Rattle.std.proofs.Common.{◌≡◌, ℕ, suc, ◌+◌, ◌<◌, ◌≤◌, true, false, ◌&&◌, ltb, ◌⊎◌, List, [], ◌∷◌, ◌++◌, map, length, get_or, drop, set, vec_len, sym, refl, ap, ◌∙◌, subst, inl, inr, arith}
+use Rattle.std.proofs.Common.{◌≡◌, ℕ, suc, ◌<◌, ◌≤◌, true, false, ◌&&◌, ltb, ◌⊎◌, List, [], ◌∷◌, ◌++◌, map, length, get_or, drop, set, vec_len, sym, refl, ap, ◌∙◌, subst, inl, inr, arith}
 use Rattle.std.proofs.lemmas.List.{get_or-set_same, get_or-set_other, map-set, get_or-map, length-map, map-append}
 use Rattle.std.proofs.lemmas.Bool.{cases_eq, lt-ltb, le-ltb, and_left, and_right, and_from}
 use Rattle.link.specs.declared.Link.{Link}
@@ -53,7 +53,7 @@ not_listed s e d some h = apart (nexts_of s) (s.free ∷ chains_of s) 0 (suc e) 
 
 -- the chain x of the list c becomes y, with the first free cell `one` at its end; `rest` is still free, and the cells are linked by ms
 module _ (s : Links) (c : ℕ) (x one rest y : Chain) (ms : List ℕ) (at : At s c x) (some : 0 < s.free.count)
-    (is_one : one ≡ front (nexts_of s) s.free 1) (is-rest : rest ≡ back (nexts_of s) s.free 1) (is_y : y ≡ cat x one) (is-ms : ms ≡ linked (nexts_of s) x one) where
+    (is_one : one ≡ front (nexts_of s) s.free 1) (is_rest : rest ≡ back (nexts_of s) s.free 1) (is_y : y ≡ cat x one) (is_ms : ms ≡ linked (nexts_of s) x one) where
   apart_wired : Wired (nexts_of s) (front (nexts_of s) s.free 1 ∷ back (nexts_of s) s.free 1 ∷ chains_of s)
   apart_wired =
       let ns : List ℕ = nexts_of s in
@@ -63,7 +63,7 @@ module _ (s : Links) (c : ℕ) (x one rest y : Chain) (ms : List ℕ) (at : At s
 
   linked_is : linked (nexts_of s) (get_or (chains_of s) c x) (front (nexts_of s) s.free 1) ≡ ms
   linked_is =
-      ap (λ (t : Chain). linked (nexts_of s) t (front (nexts_of s) s.free 1)) (sym at.read) ∙ ap (linked (nexts_of s) x) (sym is_one) ∙ sym is-ms
+      ap (λ (t : Chain). linked (nexts_of s) t (front (nexts_of s) s.free 1)) (sym at.read) ∙ ap (linked (nexts_of s) x) (sym is_one) ∙ sym is_ms
 
   cat_is : cat (get_or (chains_of s) c x) (front (nexts_of s) s.free 1) ≡ y
   cat_is = ap (λ (t : Chain). cat t (front (nexts_of s) s.free 1)) (sym at.read) ∙ ap (cat x) (sym is_one) ∙ sym is_y
@@ -74,7 +74,7 @@ module _ (s : Links) (c : ℕ) (x one rest y : Chain) (ms : List ℕ) (at : At s
       let chs : List Chain = chains_of s in
       let one' : Chain = front ns s.free 1 in
       let rest' : Chain = back ns s.free 1 in
-      same_wired _ _ _ _ linked_is (ap (λ (t : Chain). t ∷ set chs c (cat (get_or chs c x) one')) (sym is-rest) ∙ ap (λ (t : Chain). rest ∷ set chs c t) cat_is)
+      same_wired _ _ _ _ linked_is (ap (λ (t : Chain). t ∷ set chs c (cat (get_or chs c x) one')) (sym is_rest) ∙ ap (λ (t : Chain). rest ∷ set chs c t) cat_is)
       (shed _ _ no_chain refl (join_wired ns (one' ∷ rest' ∷ chs) (suc (suc c)) 0 x no_chain apart_wired (omega (arith, at.within, s.chains.ok.0)) (omega arith) (omega arith) refl))
 
   append_table : table ms (set (chains_of s) c y) ≡ set (table (nexts_of s) (chains_of s)) c (nodes (nexts_of s) x ++ s.free.first ∷ [])

@@ -27,7 +27,7 @@ two s a b ha hb ne =
     sym (and_from (is_list s a) (is_list s b && not (eqb a b)) (sym (a_list s a ha)) (and_from (is_list s b) (not (eqb a b)) (sym (a_list s b hb)) (not_from_false (eqb a b) (ne_eqb a b ne))))
 
 -- the chain x of the list a becomes z, with the chain y of the list b behind it; the cells are linked by ms
-module _ (s : Links) (a b : ℕ) (x y z : Chain) (ms : List ℕ) (at_a : At s a x) (at_b : At s b y) (ne : a ≡ b → ⊥) (is-z : z ≡ cat x y) (is-ms : ms ≡ linked (nexts_of s) x y) where
+module _ (s : Links) (a b : ℕ) (x y z : Chain) (ms : List ℕ) (at_a : At s a x) (at_b : At s b y) (ne : a ≡ b → ⊥) (is_z : z ≡ cat x y) (is_ms : ms ≡ linked (nexts_of s) x y) where
   read_b : y ≡ get_or (chains_of s) b x
   read_b = get_or_read (chains_of s) b y (omega (arith, at_b.within, s.chains.ok.0)) at_b.read x
 
@@ -43,10 +43,10 @@ module _ (s : Links) (a b : ℕ) (x y z : Chain) (ms : List ℕ) (at_a : At s a 
 
   linked_is : linked (nexts_of s) (get_or (chains_of s) a x) (get_or (chains_of s) b x) ≡ ms
   linked_is =
-      ap (λ (t : Chain). linked (nexts_of s) t (get_or (chains_of s) b x)) (sym at_a.read) ∙ ap (linked (nexts_of s) x) (sym read_b) ∙ sym is-ms
+      ap (λ (t : Chain). linked (nexts_of s) t (get_or (chains_of s) b x)) (sym at_a.read) ∙ ap (linked (nexts_of s) x) (sym read_b) ∙ sym is_ms
 
   cat_is : cat (get_or (chains_of s) a x) (get_or (chains_of s) b x) ≡ z
-  cat_is = ap (λ (t : Chain). cat t (get_or (chains_of s) b x)) (sym at_a.read) ∙ ap (cat x) (sym read_b) ∙ sym is-z
+  cat_is = ap (λ (t : Chain). cat t (get_or (chains_of s) b x)) (sym at_a.read) ∙ ap (cat x) (sym read_b) ∙ sym is_z
 
   pub all_wired : Wired ms (s.free ∷ set (set (chains_of s) a z) b no_chain)
   all_wired =

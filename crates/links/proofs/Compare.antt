@@ -5,7 +5,7 @@ use Rattle.std.proofs.lemmas.Bool.{false≢true}
 use Rattle.link.specs.declared.Link.{Link}
 use Rattle.links.specs.declared.chains.Chain.{Chain}
 use Rattle.links.specs.declared.state.Links.{Links}
-use Rattle.links.specs.Meaning.{lists, list_at, Same}
+use Rattle.links.specs.Meaning.{list_at, Same}
 use Rattle.links.proofs.Reading.{At, lists_length, list_length}
 
 -- xs and ys, what is left of the lists ks and ls, are equal just where those are

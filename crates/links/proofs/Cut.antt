@@ -18,7 +18,7 @@ cut_none s c n x at h = sym (ap (set (lists s) c) (take_all n (list_at s c) (ome
 
 -- the chain x of the list c becomes its first n cells, `keep`; the others, `rest`, go behind the free ones, which become y, and the cells are linked by ms
 module _ (s : Links) (c n : ℕ) (x keep rest y : Chain) (ms : List ℕ) (at : At s c x) (short : n ≤ x.count)
-    (is-keep : keep ≡ front (nexts_of s) x n) (is-rest : rest ≡ back (nexts_of s) x n) (is_y : y ≡ cat s.free rest) (is-ms : ms ≡ linked (nexts_of s) s.free rest) where
+    (is_keep : keep ≡ front (nexts_of s) x n) (is_rest : rest ≡ back (nexts_of s) x n) (is_y : y ≡ cat s.free rest) (is_ms : ms ≡ linked (nexts_of s) s.free rest) where
   apart_wired : Wired (nexts_of s) (rest ∷ s.free ∷ set (chains_of s) c keep)
   apart_wired =
       let ns : List ℕ = nexts_of s in
@@ -27,13 +27,13 @@ module _ (s : Links) (c n : ℕ) (x keep rest y : Chain) (ms : List ℕ) (at : A
       let both : (k : ℕ) → occ k (nodes ns (back ns x n)) + occ k (nodes ns (front ns x n)) ≡ occ k (nodes ns (get_or chs c x)) =
       λ k. omega (arith, parts ns x n short k, ap (λ (t : Chain). occ k (nodes ns t)) at.read) in
       same_wired ns ns _ _ refl
-      (ap (λ (t : Chain). t ∷ s.free ∷ set chs c (front ns x n)) (sym is-rest) ∙ ap (λ (t : Chain). rest ∷ s.free ∷ set chs c t) (sym is-keep))
+      (ap (λ (t : Chain). t ∷ s.free ∷ set chs c (front ns x n)) (sym is_rest) ∙ ap (λ (t : Chain). rest ∷ s.free ∷ set chs c t) (sym is_keep))
       (spread ns (s.free ∷ chs) (suc c) (back ns x n) (front ns x n) x hs (wired s) both (omega (arith, ap (λ (t : Chain). t.count) at.read)) (back_ends ns x n short (read_ends s c x at)) (front_ends ns x n))
 
   pub cut_wired : Wired ms (y ∷ set (chains_of s) c keep)
   cut_wired =
       let chs : List Chain = set (chains_of s) c keep in
-      same_wired _ _ _ _ (sym is-ms) (ap (λ (t : Chain). t ∷ chs) (sym is_y))
+      same_wired _ _ _ _ (sym is_ms) (ap (λ (t : Chain). t ∷ chs) (sym is_y))
       (shed _ _ no_chain refl (join_wired (nexts_of s) (rest ∷ s.free ∷ chs) (suc zero) zero x no_chain apart_wired (omega arith) (omega arith) (omega arith) refl))
 
   cut_table : table ms (set (chains_of s) c keep) ≡ set (table (nexts_of s) (chains_of s)) c (take n (nodes (nexts_of s) x))
@@ -42,8 +42,8 @@ module _ (s : Links) (c n : ℕ) (x keep rest y : Chain) (ms : List ℕ) (at : A
       let chs : List Chain = set (chains_of s) c keep in
       let e = join_table ns (rest ∷ s.free ∷ chs) (suc zero) zero x no_chain apart_wired (omega arith) (omega arith) (omega arith) refl in
       let same : table (linked ns s.free rest) chs ≡ table ns chs = ap (drop 2) e in
-      let kept : nodes ns keep ≡ take n (nodes ns x) = ap (nodes ns) is-keep ∙ front_nodes ns x n short in
-      ap (λ (m : List ℕ). table m chs) is-ms ∙ same ∙ map-set (nodes ns) (chains_of s) c keep ∙ ap (set (table ns (chains_of s)) c) kept
+      let kept : nodes ns keep ≡ take n (nodes ns x) = ap (nodes ns) is_keep ∙ front_nodes ns x n short in
+      ap (λ (m : List ℕ). table m chs) is_ms ∙ same ∙ map-set (nodes ns) (chains_of s) c keep ∙ ap (set (table ns (chains_of s)) c) kept
 
   pub cut_lists : meaning (links_of s) ms (set (chains_of s) c keep) ≡ set (lists s) c (take n (list_at s c))
   unfolding lists

@@ -11,7 +11,7 @@ pub hashed_append : (h : ℕ) (xs ys : List ℕ) → hashed_from h (xs ++ ys) �
 hashed_append h [] ys = refl
 hashed_append h (x ∷ xs) ys = hashed_append (fed h x) xs ys
 
--- big_endian as `to_be_bytes` writes it, which does not divide the last byte by 1
+-- big-endian as `to_be_bytes` writes it, which does not divide the last byte by 1
 pub four_bytes : (n : ℕ) → (n / 16777216 % 256) ∷ (n / 65536 % 256) ∷ (n / 256 % 256) ∷ (n % 256) ∷ [] ≡ big_endian 4 n
 four_bytes n = ap (λ (v : ℕ). (n / 16777216 % 256) ∷ (n / 65536 % 256) ∷ (n / 256 % 256) ∷ (v % 256) ∷ []) (sym (div-one n))
 
@@ -37,10 +37,10 @@ link_fed h a b c d l ws xs ys zs ea eb ec ed ew ex ey ez =
     let kind : List ℕ = bytes_of_width l.width ∷ signed_code l.is_signed ∷ whence_code l.whence ∷ [] in
     let bias : List ℕ = big_endian 4 l.bias in
     let position : List ℕ = big_endian 4 l.position in
-    let after-kind : a ≡ hashed_from h kind = ea ∙ ap (hashed_from h) ew in
-    let after-bias : b ≡ hashed_from h (kind ++ bias) = fed_more h a b kind xs bias after-kind eb ex in
-    let after-position : c ≡ hashed_from h ((kind ++ bias) ++ position) = fed_more h b c (kind ++ bias) ys position after-bias ec ey in
-    fed_more h c d ((kind ++ bias) ++ position) zs (big_endian 8 l.objidx.0) after-position ed ez
+    let after_kind : a ≡ hashed_from h kind = ea ∙ ap (hashed_from h) ew in
+    let after_bias : b ≡ hashed_from h (kind ++ bias) = fed_more h a b kind xs bias after_kind eb ex in
+    let after_position : c ≡ hashed_from h ((kind ++ bias) ++ position) = fed_more h b c (kind ++ bias) ys position after_bias ec ey in
+    fed_more h c d ((kind ++ bias) ++ position) zs (big_endian 8 l.objidx.0) after_position ed ez
 
 -- the first link x of xs is fed, and ys is left
 pub links_fed : (h a : ℕ) (x : Link) (xs ys : List Link) → xs ≡ x ∷ ys → a ≡ hashed_from h (link_feed x) → hashed_from a (links_feed ys) ≡ hashed_from h (links_feed xs)

@@ -56,10 +56,10 @@ fresh_end (suc n) = up_last (suc n - 1) 0 n ∙ omega arith
 
 pub fresh_wired : (ns : List ℕ) (cells lists : ℕ) (free : Chain) → length ns ≡ cells → ((k : ℕ) → k < cells → get_or ns k 0 ≡ k + 1)
     → free.first ≡ 0 → free.last ≡ cells - 1 → free.count ≡ cells → Wired ns (free ∷ replicate lists no_chain)
-fresh_wired ns cells lists free len steps e-first e-last e-count = record { once = once; ended = ended; filled = filled }
+fresh_wired ns cells lists free len steps e_first e_last e_count = record { once = once; ended = ended; filled = filled }
   where
     is_up : nodes ns free ≡ up 0 cells
-    is_up = ap (λ (s : ℕ). walk ns s free.count) e-first ∙ ap (walk ns 0) e-count ∙ walk_up ns 0 cells (λ k a b. steps k (omega arith))
+    is_up = ap (λ (s : ℕ). walk ns s free.count) e_first ∙ ap (walk ns 0) e_count ∙ walk_up ns 0 cells (λ k a b. steps k (omega arith))
 
     none : (k : ℕ) → sum_of (occ k) (table ns (replicate lists no_chain)) ≡ 0
     none k = ap (sum_of (occ k)) (blank_map (nodes ns) no_chain lists) ∙ blank_sum (occ k) [] lists refl
@@ -72,8 +72,8 @@ fresh_wired ns cells lists free len steps e-first e-last e-count = record { once
     once k = omega (arith, none k, ap (occ k) is_up, of k (cases_lt k cells))
 
     ended : Ended ns (free ∷ replicate lists no_chain)
-    ended zero d h = ap (last_of free.last) is_up ∙ ap (λ (l : ℕ). last_of l (up 0 cells)) e-last ∙ fresh_end cells ∙ sym e-last
+    ended zero d h = ap (last_of free.last) is_up ∙ ap (λ (l : ℕ). last_of l (up 0 cells)) e_last ∙ fresh_end cells ∙ sym e_last
     ended (suc c) d h = subst (Ends ns) (sym (get_or-replicate lists c no_chain d (omega (arith, length-replicate lists no_chain)))) refl
 
     filled : Filled ns (free ∷ replicate lists no_chain)
-    filled = omega (arith, e-count, len, blank_sum (λ (ch : Chain). ch.count) no_chain lists refl)
+    filled = omega (arith, e_count, len, blank_sum (λ (ch : Chain). ch.count) no_chain lists refl)

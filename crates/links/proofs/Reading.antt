@@ -118,14 +118,14 @@ module _ (s : Links) (c : ℕ) (x : Chain) (at : At s c x) where
   get_some i v h r =
       let ns : List ℕ = nexts_of s in
       let ls : List Link = links_of s in
-      let in-nexts : hop ns x.first i < length ns = read_inside i h in
-      let in-links : hop ns x.first i < length ls = omega (arith, s.sized, s.links.ok.0, s.nexts.ok.0) in
-      let in-nodes : i < length (nodes ns x) = omega (arith, walk_length ns x.first x.count) in
+      let in_nexts : hop ns x.first i < length ns = read_inside i h in
+      let in_links : hop ns x.first i < length ls = omega (arith, s.sized, s.links.ok.0, s.nexts.ok.0) in
+      let in_nodes : i < length (nodes ns x) = omega (arith, walk_length ns x.first x.count) in
       let value : get_or (list_at s c) i no_link ≡ v =
       ap (λ (l : List Link). get_or l i no_link) list_is
-      ∙ get_or-map (λ m. get_or ls m no_link) (nodes ns x) i 0 no_link in-nodes
+      ∙ get_or-map (λ m. get_or ls m no_link) (nodes ns x) i 0 no_link in_nodes
       ∙ ap (λ (m : ℕ). get_or ls m no_link) (get_or_walk ns x.first x.count i h)
-      ∙ get_or_default ls (hop ns x.first i) no_link v in-links ∙ sym r in
+      ∙ get_or_default ls (hop ns x.first i) no_link v in_links ∙ sym r in
       ap {B = Option Link} Some (sym value) ∙ sym (slice_get-get_or (list_at s c) i no_link (omega (arith, list_length)))
 
   -- the last cell lies as many steps past the first as there are links, less one

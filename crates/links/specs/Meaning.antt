@@ -1,5 +1,5 @@
 -- What a `Links` stands for: its lists of links, and how many cells it has.
-use Rattle.std.specs.Prelude.{◌≡◌, ℕ, ◌<◌, Bool, false, List, [], map, length, get_or, vec_items, vec_len, nat_lt, slice_index_or}
+use Rattle.std.specs.Prelude.{◌≡◌, ℕ, ◌<◌, Bool, false, List, [], map, length, vec_items, vec_len, nat_lt, slice_index_or}
 use Rattle.link.specs.declared.Link.{Link}
 use Rattle.link.specs.declared.LinkWidth.TheVariants.{Zero}
 use Rattle.link.specs.declared.OffsetWhence.TheVariants.{Head}
@@ -13,7 +13,7 @@ no_link = record { width = Zero; is_signed = false; whence = Head; bias = 0; pos
 
 -- the links that some cells hold
 abbrev pub links_at : List Link → List ℕ → List Link
-links_at ls ks = map (λ k. get_or ls k no_link) ks
+links_at ls ks = map (λ k. slice_index_or ls k no_link) ks
 
 -- the links that each chain goes through
 abbrev pub meaning : List Link → List ℕ → List Chain → List (List Link)

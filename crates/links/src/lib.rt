@@ -1,4 +1,6 @@
 // Lists of links in a fixed number of cells: each list is a chain of cells, and the free cells are one more.
+#![tactic(auto)]
+
 mod chains;
 pub mod state;
 

@@ -1,5 +1,7 @@
 // The lists of links on examples: filled to the last cell, freed in another order and filled again; list
 // numbers that there are none of; cuts past the end; the hash of a list.
+#![tactic(auto)]
+
 use fnv::FnvHasher;
 use link::{Link, LinkWidth, ObjIdx, OffsetWhence};
 use links::Links;

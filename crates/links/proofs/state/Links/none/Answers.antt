@@ -1,4 +1,4 @@
-use Rattle.std.proofs.Common.{◌≡◌, List, [], ◌∷◌, length, vec_items, sym, refl, ap, ◌∙◌, subst, arith}
+use Rattle.std.proofs.Common.{List, ◌∷◌, length, vec_items, sym, refl, ap, ◌∙◌, subst, arith}
 use Rattle.links.specs.declared.chains.Chain.{Chain}
 use Rattle.links.specs.Walk.{no_chain}
 use Rattle.links.specs.Meaning.{lists, cells, meaning}
