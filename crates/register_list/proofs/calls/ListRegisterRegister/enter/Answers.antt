@@ -23,7 +23,7 @@ returns-then-len-self c =
 pub invariant_of-self : goal.invariant_of-self
 invariant_of-self c =
     let m = rw c.deref.ensures.value at c.in-Err.ensures.answer in
-    (rw c.put.ensures.items (ordered_inserted _ _ _ c.args.self.now.sorted m), (omega arith, (omega arith, tt)))
+    record { sorted = rw c.put.ensures.items (ordered_inserted _ _ _ c.args.self.now.sorted m); within = omega arith; reserved = omega arith }
 
 pub returns : goal.returns
 returns c =

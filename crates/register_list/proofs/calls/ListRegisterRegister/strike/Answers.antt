@@ -8,7 +8,7 @@ use Rattle.register_list.proofs.calls.ListRegisterRegister.strike.Goals as goal
 pub invariant_of-self : goal.invariant_of-self
 invariant_of-self c =
     let f = rw c.deref.ensures.value at c.in-Ok.ensures.answer in
-    (rw c.remove.ensures.items (ordered_removed _ _ c.args.self.now.sorted f.within), (omega arith, (omega arith, tt)))
+    record { sorted = rw c.remove.ensures.items (ordered_removed _ _ c.args.self.now.sorted f.within); within = omega arith; reserved = omega arith }
 
 pub returns-in-Ok : goal.returns-in-Ok
 returns-in-Ok c =
