@@ -28,7 +28,13 @@ returns-then-self c =
 pub invariant_of-self : goal.invariant_of-self
 invariant_of-self c =
     let t = put c.args.self.now.cells.items c.in-Err.at (pair c.args.hash c.args.number) c.args.self.now.reached c.args.self.now.once (rw c.deref.ensures.value at c.in-Err.ensures) in
-    (t.reached, (t.once, (omega (arith, t.more, c.args.self.now.counted), (omega arith, (omega arith, tt)))))
+    record {
+      reached = t.reached;
+      once = t.once;
+      counted = omega (arith, t.more, c.args.self.now.counted);
+      within = omega arith;
+      larger = omega arith;
+    }
 
 pub returns : goal.returns
 returns c =
