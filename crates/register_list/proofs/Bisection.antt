@@ -1,5 +1,5 @@
 -- What the bisection answers of rows in order: the place of the row, or where it would stand. Used by the proof of `find`.
-use Rattle.std.proofs.Common.{◌≡◌, ℕ, ◌+◌, ◌<◌, ◌≤◌, Bool, true, false, cond, List, length, get_or, Ok, Err, Result, Ordering, Less, Equal, Greater, refl, arith, MatchResult}
+use Rattle.std.proofs.Common.{◌≡◌, ℕ, ◌+◌, ◌<◌, ◌≤◌, true, List, length, get_or, Ok, Err, Result, Ordering, Less, Equal, Greater, refl, arith, MatchResult}
 use Rattle.std.proofs.lemmas.Bool.Decides.{nat_tests}
 use Rattle.std.proofs.lemmas.List.Sorted.{searchable_from_sorted}
 use Rattle.std.specs.Cmp.{IsTotalOrder, strict, means}
