@@ -1,7 +1,7 @@
 use Rattle.std.proofs.Common.{vec_items, arith}
 use Rattle.register.proofs.Listed.{struck_none}
 use Rattle.register_list.specs.Rows.{pairs}
-use Rattle.register_list.specs.Member.{missing_among, struck_removed}
+use Rattle.register_list.proofs.Member.{missing_among, struck_removed}
 use Rattle.register_list.proofs.Order.{ordered_removed}
 use Rattle.register_list.proofs.calls.ListRegisterRegister.strike.Goals as goal
 

@@ -3,7 +3,7 @@ use Rattle.link.specs.declared.ObjIdx.{ObjIdx}
 use Rattle.register.proofs.Listed.{fits_held, entered_held, fits_new, fits_full, entered_full}
 use Rattle.register_table.specs.Cells.{entries}
 use Rattle.register_table.specs.declared.cells.Entry.{Entry}
-use Rattle.register_table.specs.Tally.{length_entries}
+use Rattle.register_table.specs.Laws.{length_entries}
 use Rattle.register_table.proofs.Change.{among_none, among_some, put}
 use Rattle.register_table.proofs.calls.TableRegisterRegister.enter.Goals as goal
 
