@@ -1,5 +1,5 @@
 -- What the bisection answers of rows in order: the place of the row, or where it would stand. Used by the proof of `find`.
-use Rattle.std.proofs.Common.{◌≡◌, ℕ, ◌+◌, ◌<◌, ◌≤◌, Bool, true, false, cond, List, length, get_or, Ok, Err, Result, Ordering, Less, Equal, Greater, refl, arith, MatchResult}
+use Rattle.std.proofs.Common.{◌≡◌, ℕ, ◌+◌, ◌<◌, ◌≤◌, true, List, length, get_or, Ok, Err, Result, Ordering, Less, Equal, Greater, refl, arith, MatchResult}
 use Rattle.std.proofs.lemmas.Bool.Decides.{nat_tests}
 use Rattle.std.proofs.lemmas.List.Sorted.{searchable_from_sorted}
 use Rattle.std.specs.Cmp.{IsTotalOrder, strict, means}
@@ -13,41 +13,24 @@ use Rattle.register_list.proofs.Order.{before_self, before_trans, before_not, ne
 abbrev Before : Row → Row → Type 0
 Before a b = before a b ≡ true
 
-abbrev rank : Row → Row → Ordering
-rank a b = cond (before a b) Less (cond (before b a) Greater Equal)
-
-pub tested : (a b : Row) (p q : Bool) → before a b ≡ p → before b a ≡ q → MatchOrdering (cond p Less (cond q Greater Equal)) (Before a b) (a ≡ b) (Before b a)
-tested a b true q e f = e
-tested a b false true e f = f
-tested a b false false e f = neither a b e f
-
-pub ranks : (a b : Row) → MatchOrdering (rank a b) (Before a b) (a ≡ b) (Before b a)
-ranks a b = tested a b (before a b) (before b a) refl refl
-
-abbrev by_before : IsTotalOrder (λ (a b : Row) (r : Ordering). MatchOrdering r (Before a b) (a ≡ b) (Before b a))
-by_before = strict Before before_self before_trans rank ranks
-
-meant : (a b : Row) (r : Ordering) → rank a b ≡ r → MatchOrdering r (Before a b) (a ≡ b) (Before b a)
-meant = means Before before_self before_trans rank ranks
-
 -- what the derived order answers, in words of `before`
 pub derived : (a b : Row) (r : Ordering) → (r ≡ ghosts.cmp a b) → MatchOrdering r (Before a b) (a ≡ b) (Before b a)
 derived a b Less h = grind (arith, nat_tests, h)
 derived a b Equal h = neither a b (grind (arith, nat_tests, h)) (grind (arith, nat_tests, h))
 derived a b Greater h = grind (arith, nat_tests, h)
 
-abbrev pub by_row : IsTotalOrder ghosts.cmp
-by_row = record {
-  cmp = rank;
-  says = λ a b r h. by_before.says a b r (derived a b r h);
-  flip = by_before.antisymm;
-  trans = by_before.trans;
-  alike = by_before.congr;
-}
+pub ranks : (a b : Row) → MatchOrdering (ghosts.cmp a b) (Before a b) (a ≡ b) (Before b a)
+ranks a b = derived a b (ghosts.cmp a b) refl
+
+by_row : IsTotalOrder ghosts.cmp
+by_row = strict Before before_self before_trans ghosts.cmp ranks
+
+meant : (a b : Row) (r : Ordering) → ghosts.cmp a b ≡ r → MatchOrdering r (Before a b) (a ≡ b) (Before b a)
+meant = means Before before_self before_trans ghosts.cmp ranks
 
 -- the answers of the bisection at rows in order
 module _ (xs : List Row) (row : Row) (o : Ordered xs) where
-  pub found : (r : Result ℕ ℕ) → MatchResult r (λ i. i < length xs) (λ i. i ≤ length xs) → IsBinarySearchResult (λ y. rank y row) xs r → MatchResult r (Found xs row) (Missing xs row)
+  pub found : (r : Result ℕ ℕ) → MatchResult r (λ i. i < length xs) (λ i. i ≤ length xs) → IsBinarySearchResult (λ y. ghosts.cmp y row) xs r → MatchResult r (Found xs row) (Missing xs row)
   found (Ok i) l at = record { within = l; here = λ d. meant (get_or xs i d) row Equal (at d) }
   found (Err i) l parted =
       let q = parted (searchable_from_sorted by_row (λ (y : Row). y) xs row (λ k d _ m. let p = places xs o k (k + 1) d (omega arith) m in let n = before_not (get_or xs k d) (get_or xs (k + 1) d) p in grind (arith, p, n))) in

@@ -1,3 +1,4 @@
 mod Bisection
+mod Member
 mod Order
 mod Walk

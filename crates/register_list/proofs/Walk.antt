@@ -8,7 +8,8 @@ use Rattle.register.proofs.Listed.{is}
 use Rattle.register_list.specs.declared.row.Row.{Row}
 use Rattle.register_list.specs.Rows.{before, nil, pair, pairs, Ordered, Found, Missing, Place}
 use Rattle.register_list.proofs.Order.{before_not}
-use Rattle.register_list.specs.Member.{none_among, one_among}
+use Rattle.register_list.specs.Laws.{none_among}
+use Rattle.register_list.proofs.Member.{one_among}
 
 itself : (a : Row) → before a a ≡ false
 itself a = grind (arith, nat_tests)

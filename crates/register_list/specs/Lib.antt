@@ -1,3 +1,3 @@
 pub mod Meaning
 pub mod Rows
-pub mod Member
+pub mod Laws

@@ -1,12 +1,8 @@
 // What a register is asked for, of the list.
-ghost use Rattle.std.specs.Prelude.{◌≡◌, ◌≤◌, length, IfOk};
+ghost use Rattle.std.specs.Prelude.{◌≡◌, IfOk};
 ghost use Rattle.register.specs.Pairs.{empty};
 ghost use Rattle.register_list.specs.Meaning.{meaning};
-ghost use Rattle.std.proofs.Common.{arith};
-ghost use Rattle.std.proofs.lemmas.List.{length-map};
-ghost use Rattle.register.proofs.Listed;
-ghost use Rattle.register_list.specs.Rows.{pair, pairs};
-ghost use Rattle.register_list.specs.Member.{ordered_distinct};
+ghost use Rattle.register_list.specs.Laws.{counted_rows};
 
 use super::ListRegister;
 use super::row::{Row, find, next_in, put};
@@ -27,11 +23,7 @@ impl ListRegister {
 impl Register for ListRegister {
     ghost holds = { meaning };
 
-    ghost counted = { λ s.
-        let n = length-map s.rows.items pair in
-        let len = s.rows.ok.0 in
-        let l : length (pairs s.rows.items) ≤ s.capacity = omega arith in
-        Listed.counted (pairs s.rows.items) s.capacity (ordered_distinct s.rows.items s.sorted) l };
+    ghost counted = { λ s. counted_rows s.rows.items s.rows.len s.capacity s.sorted s.rows.ok.0 s.within };
 
     fn enter(&mut self, hash: u64, number: ObjIdx) -> bool {
         let row = Row {

@@ -1,5 +1,7 @@
 // A register that is a list of rows in order of number, and under one number by hash. A row is found by
 // bisection. All memory is taken when it is made.
+#![tactic(auto)]
+
 ghost use Rattle.std.specs.Prelude.{◌≤◌, vec_len, vec_capacity};
 ghost use Rattle.register_list.specs.Rows.{Ordered};
 

@@ -1,6 +1,8 @@
 // Runs the two registers side by side: every call is made of both, and they must answer alike.
 // With the argument `long` it times a million calls of each instead, to show that neither grows slower:
-//     rt check register_runs && target/bin/register_runs long
+//     cd crates/register_runs && rt run -- long
+#![tactic(auto)]
+
 mod both;
 mod call;
 mod cases;

@@ -9,7 +9,8 @@ use Rattle.register_table.specs.declared.cells.Entry.{Entry}
 use Rattle.register_table.specs.declared.cells.Cell.TheVariants.{Free, Held}
 use Rattle.register_table.specs.Cells.{entries, full, has, filled, times, Reached, Sought}
 use Rattle.register_table.specs.Shift.{Without}
-use Rattle.register_table.specs.Tally.{digit, count_none, count_some, count_set, among_entries, entered_by_counts, struck_by_counts}
+use Rattle.register_table.specs.Laws.{digit, among_entries}
+use Rattle.register_table.proofs.Tally.{count_none, count_some, count_set, entered_by_counts, struck_by_counts}
 use Rattle.register_table.proofs.Search.{ReachedOf, has_entry}
 
 -- a table of free cells

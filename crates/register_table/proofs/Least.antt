@@ -9,7 +9,8 @@ use Rattle.register_table.specs.declared.cells.Entry.{Entry}
 use Rattle.register_table.specs.declared.cells.Cell.TheVariants.{Free, Held}
 use Rattle.register_table.specs.Round.{far}
 use Rattle.register_table.specs.Cells.{entries, has, filled, times, Reached, better, lesser}
-use Rattle.register_table.specs.Tally.{count_some, among_entries}
+use Rattle.register_table.specs.Laws.{among_entries}
+use Rattle.register_table.proofs.Tally.{count_some}
 use Rattle.register_table.proofs.Search.{Passed, unseen, home_less}
 
 -- a number that would be less than the best

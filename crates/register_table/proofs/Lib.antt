@@ -1,4 +1,5 @@
 pub mod Round
+pub mod Tally
 pub mod Search
 pub mod Least
 pub mod Shift

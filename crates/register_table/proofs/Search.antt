@@ -8,7 +8,7 @@ use Rattle.register_table.specs.declared.cells.Cell.TheVariants.{Free, Held}
 use Rattle.register_table.specs.Round.{ahead, far}
 use Rattle.register_table.specs.Cells.{full, has, filled, times, begin, way, Open, Reached}
 use Rattle.register_table.proofs.Round.{far_less, far_itself, ahead_far, far_following, following_less}
-use Rattle.register_table.specs.Tally.{count_all, count_none}
+use Rattle.register_table.proofs.Tally.{count_all, count_none}
 
 -- `Open` and `Reached` at n cells, however that is known
 abbrev pub OpenOf : ℕ → List Cell → ℕ → ℕ → Type 0

@@ -9,7 +9,8 @@ use Rattle.register_table.specs.Round.{ahead, far}
 use Rattle.register_table.specs.Cells.{full, filled, begin, way, Reached}
 use Rattle.register_table.specs.Shift.{goes_over, shifted, gap_after, Without}
 use Rattle.register_table.proofs.Round.{following_less, far_less, far_itself, ahead_far, far_ahead, ahead_ahead, far_between, far_before}
-use Rattle.register_table.specs.Tally.{one, digit, count_set}
+use Rattle.register_table.specs.Laws.{one, digit}
+use Rattle.register_table.proofs.Tally.{count_set}
 use Rattle.register_table.proofs.Search.{OpenOf, ReachedOf, far_more}
 
 -- The gap g has come from the cell a, and the walk to the cell k. Each pair but the one in the gap is reached; a pair

@@ -2,4 +2,4 @@ pub mod Round
 pub mod Cells
 pub mod Shift
 pub mod Meaning
-pub mod Tally
+pub mod Laws

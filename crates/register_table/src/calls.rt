@@ -2,10 +2,7 @@
 ghost use Rattle.std.specs.Prelude.{◌≡◌, ◌+◌, max, IfOk};
 ghost use Rattle.register.specs.Pairs.{empty};
 ghost use Rattle.register_table.specs.Meaning.{meaning, width};
-ghost use Rattle.std.proofs.Common.{arith};
-ghost use Rattle.register.proofs.Listed;
-ghost use Rattle.register_table.specs.Cells.{entries};
-ghost use Rattle.register_table.specs.Tally.{distinct_entries, length_entries};
+ghost use Rattle.register_table.specs.Laws.{counted_cells};
 
 use crate::TableRegister;
 use crate::cells::{Cell, Entry};
@@ -38,7 +35,7 @@ impl TableRegister {
 impl Register for TableRegister {
     ghost holds = { meaning };
 
-    ghost counted = { λ s. Listed.counted (entries s.cells.items) s.capacity (distinct_entries s.cells.items s.once) (omega (arith, length_entries s.cells.items, s.counted, s.within)) };
+    ghost counted = { λ s. counted_cells s.cells.items s.count s.capacity s.once s.counted s.within };
 
     fn enter(&mut self, hash: u64, number: ObjIdx) -> bool {
         let Err(at) = seek(&self.cells, hash, number) else {

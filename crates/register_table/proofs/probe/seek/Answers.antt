@@ -1,5 +1,5 @@
-use Rattle.std.proofs.Common.{◌%◌, length, refl, ap, ◌∙◌, arith}
-use Rattle.std.proofs.lemmas.Bool.Decides.{nat_tests, not_from_Decides}
+use Rattle.std.proofs.Common.{◌%◌, length, sym, ap, ◌∙◌, arith}
+use Rattle.std.proofs.lemmas.Bool.Decides.{nat_tests}
 use Rattle.register_table.specs.Cells.{full, has}
 use Rattle.register_table.specs.declared.cells.Cell.TheVariants.{Held}
 use Rattle.register_table.proofs.Search.{Lacks, walked_none, walked_more, walked_less, unseen, home_less}
@@ -10,7 +10,7 @@ pub loop-at-init : goal.loop-at-init
 loop-at-init c = rw c.home-at.ensures.answer (walked_none c.args.cells.now (c.args.hash % length c.args.cells.now) (Lacks c.args.hash c.args.number.0) (home_less _ _ c.requires.free))
 
 pub returns-then-eq : goal.returns-then-eq
-returns-then-eq c = let it = c.if-eq.ensures.0 refl in (c.loop-at.invariant.0, ap (has c.args.hash c.args.number.0) c.in-Held.is ∙ grind (arith, nat_tests, it))
+returns-then-eq c = let it = c.if-eq.ensures in (c.loop-at.invariant.0, ap (has c.args.hash c.args.number.0) c.in-Held.is ∙ grind (arith, nat_tests, it))
 
 pub following-at-requires : goal.following-at-requires
 following-at-requires c = c.loop-at.invariant.0
@@ -23,7 +23,7 @@ loop-at-smaller c =
 pub loop-at-preserved : goal.loop-at-preserved
 loop-at-preserved c =
     let other : Lacks c.args.hash c.args.number.0 (Held c.in-Held.e) = elim c.else-e-hash.branch [
-      | else-e-hash-via-then-e-hash+else-eq w ↦ let ne = not_from_Decides _ w.eq.ensures w.if-eq.false in grind (arith, nat_tests, ne)
+      | else-e-hash-via-then-e-hash+else-eq w ↦ let ne = sym w.eq.ensures ∙ w.if-eq.false in grind (arith, nat_tests, ne)
       | else-e-hash-via-else-e-hash w ↦ let ne = w.if-e-hash.false in grind (arith, nat_tests, ne)
     ] in
     rw c.following-at.ensures.answer

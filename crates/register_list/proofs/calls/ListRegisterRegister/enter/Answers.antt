@@ -2,7 +2,7 @@ use Rattle.std.proofs.Common.{◌<◌, ◌≤◌, length, vec_items, sym, arith}
 use lib.ListN.{length-map}
 use Rattle.register.proofs.Listed.{fits_held, fits_new, fits_full, entered_held, entered_full}
 use Rattle.register_list.specs.Rows.{pair, pairs}
-use Rattle.register_list.specs.Member.{found_among, missing_among, entered_inserted}
+use Rattle.register_list.proofs.Member.{found_among, missing_among, entered_inserted}
 use Rattle.register_list.proofs.Order.{ordered_inserted}
 use Rattle.register_list.proofs.calls.ListRegisterRegister.enter.Goals as goal
 
@@ -23,7 +23,7 @@ returns-then-len-self c =
 pub invariant_of-self : goal.invariant_of-self
 invariant_of-self c =
     let m = rw c.deref.ensures.value at c.in-Err.ensures.answer in
-    (rw c.put.ensures.items (ordered_inserted _ _ _ c.args.self.now.sorted m), (omega arith, (omega arith, tt)))
+    record { sorted = rw c.put.ensures.items (ordered_inserted _ _ _ c.args.self.now.sorted m); within = omega arith; reserved = omega arith }
 
 pub returns : goal.returns
 returns c =

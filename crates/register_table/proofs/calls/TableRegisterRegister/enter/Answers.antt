@@ -3,7 +3,7 @@ use Rattle.link.specs.declared.ObjIdx.{ObjIdx}
 use Rattle.register.proofs.Listed.{fits_held, entered_held, fits_new, fits_full, entered_full}
 use Rattle.register_table.specs.Cells.{entries}
 use Rattle.register_table.specs.declared.cells.Entry.{Entry}
-use Rattle.register_table.specs.Tally.{length_entries}
+use Rattle.register_table.specs.Laws.{length_entries}
 use Rattle.register_table.proofs.Change.{among_none, among_some, put}
 use Rattle.register_table.proofs.calls.TableRegisterRegister.enter.Goals as goal
 
@@ -28,7 +28,13 @@ returns-then-self c =
 pub invariant_of-self : goal.invariant_of-self
 invariant_of-self c =
     let t = put c.args.self.now.cells.items c.in-Err.at (pair c.args.hash c.args.number) c.args.self.now.reached c.args.self.now.once (rw c.deref.ensures.value at c.in-Err.ensures) in
-    (t.reached, (t.once, (omega (arith, t.more, c.args.self.now.counted), (omega arith, (omega arith, tt)))))
+    record {
+      reached = t.reached;
+      once = t.once;
+      counted = omega (arith, t.more, c.args.self.now.counted);
+      within = omega arith;
+      larger = omega arith;
+    }
 
 pub returns : goal.returns
 returns c =

@@ -20,10 +20,14 @@ overflow_sub-self c =
 pub invariant_of-self : goal.invariant_of-self
 invariant_of-self c =
     let t = out c.args.self.now.cells.items c.vacate.new.cells c.in-Ok.at c.args.hash c.args.number.0 c.args.self.now.once (rw c.deref.ensures.value at c.in-Ok.ensures) (rw c.deref_mut.ensures.value at c.vacate.ensures.pairs) in
-    let same = with_items_is c.args.self.now.cells c.vacate.new.cells (omega arith) in (
-      λ k. subst (λ xs. Reached xs k) (sym same) (c.vacate.ensures.reached k),
-      (λ g m. subst (λ xs. times xs g m ≤ 1) (sym same) (t.once g m), (omega (arith, ap filled same, t.fewer, c.args.self.now.counted), (omega arith, (omega arith, tt)))),
-    )
+    let same = with_items_is c.args.self.now.cells c.vacate.new.cells (omega arith) in
+    record {
+      reached = λ k. subst (λ xs. Reached xs k) (sym same) (c.vacate.ensures.reached k);
+      once = λ g m. subst (λ xs. times xs g m ≤ 1) (sym same) (t.once g m);
+      counted = omega (arith, ap filled same, t.fewer, c.args.self.now.counted);
+      within = omega arith;
+      larger = omega arith;
+    }
 
 pub returns : goal.returns
 returns c =
