@@ -1,7 +1,6 @@
 -- The call of the model that a call stands for: a scalar goes by its bytes, and a count by its bytes if it fits.
 use Rattle.std.specs.Prelude.{ℕ, ◌-◌, ◌^◌, cond, List, Some, None, Option, nat_le}
-use Rattle.std.proofs.Common.{of_z}
-use Rattle.std.specs.Int.{w16}
+use Rattle.std.specs.Int.{cast_unsigned, w16}
 use Rattle.scalar.specs.BigEndian.{big_endian}
 use Rattle.model.specs.Run as model
 use Rattle.calls.specs.declared.scalar_value.ScalarValue.{ScalarValue}
@@ -18,7 +17,7 @@ use Rattle.calls.specs.declared.call.Call.TheVariants as call
 abbrev pub scalar_bytes : ScalarValue → List ℕ
 scalar_bytes (value.U8 x) = big_endian 1 x
 scalar_bytes (value.U16 x) = big_endian 2 x
-scalar_bytes (value.I16 x) = big_endian 2 (of_z w16 x)
+scalar_bytes (value.I16 x) = big_endian 2 (cast_unsigned w16 x)
 scalar_bytes (value.U32 x) = big_endian 4 x
 scalar_bytes (value.U24 x) = big_endian 3 x
 scalar_bytes (value.Tag x) = x.0

@@ -1,7 +1,7 @@
 -- In a register that was empty and is left alone, each pair is that of a packed object, and no two equal objects are both entered.
 use Rattle.std.proofs.Common.{◌≡◌, ℕ, ◌<◌, true, false, not, ◌&&◌, ltb, ◌⊎◌, List, [], ◌∷◌, length, Some, None, sym, refl, ap, ◌∙◌, subst, inl, inr, arith}
 use Rattle.link.specs.declared.Link.{Link}
-use Rattle.register.specs.Pairs.{Pairs, same_pair, fits, entered, struck, Counted}
+use Rattle.register.specs.Pairs.{Pairs, same_pair, fits, struck, Counted}
 use Rattle.scalar.specs.Place.{part}
 use Rattle.std.proofs.lemmas.Bool.{and_parts, or_cases, both_ways, cases_eq, not-true}
 use Rattle.model.specs.State.{State, Object, Pool, numbered, slot_back, links_of}

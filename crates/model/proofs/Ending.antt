@@ -7,7 +7,8 @@ use Rattle.link.specs.declared.ObjIdx.{ObjIdx}
 use Rattle.register.specs.Pairs.{Pairs}
 use Rattle.scalar.specs.BigEndian.{number, big_endian}
 use Rattle.scalar.specs.Place.{part}
-use Rattle.scalar.specs.BigEndianLemmas.{length_big_endian, number_back}
+use Rattle.scalar.specs.Laws.{length_big_endian}
+use Rattle.scalar.proofs.BigEndian.{number_back}
 use Rattle.std.proofs.lemmas.Int.{ints}
 use Rattle.std.proofs.lemmas.Bool.{ltb-false, eqb-true, eqb-false, lt-ltb, or_from, or_parts, both_ways}
 use Rattle.model.specs.State.{State, Object, with_ended}

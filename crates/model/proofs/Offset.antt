@@ -8,7 +8,7 @@ use Rattle.link.specs.declared.OffsetWhence.TheVariants.{Head, Tail, Absolute}
 use Rattle.link.specs.Width.{bytes_of_width}
 use Rattle.scalar.specs.BigEndian.{big_endian}
 use Rattle.scalar.specs.Place.{part, write}
-use Rattle.scalar.specs.BigEndianLemmas.{length_big_endian}
+use Rattle.scalar.specs.Laws.{length_big_endian}
 use Rattle.std.proofs.lemmas.List.{length-take-le, drop_at, get_or-drop}
 use Rattle.std.proofs.lemmas.Int.{ints}
 use Rattle.std.proofs.lemmas.Bool.{ltb-false, le-ltb, ne_eqb, cases_lt}
@@ -20,7 +20,7 @@ use Rattle.model.specs.Run.{Call, Beginning, run}
 use Rattle.model.specs.Run.Call.{End}
 use Rattle.model.specs.Run.Answer.{Bytes}
 use Rattle.model.specs.Moments.{at, span}
-use Rattle.model.specs.Offsets.{place, distance, shown, FieldOf, from, to, Inside, MeetsNone, ReadsBack, contents, LawC}
+use Rattle.model.specs.Offsets.{distance, shown, FieldOf, from, to, Inside, MeetsNone, ReadsBack, contents, LawC}
 use Rattle.model.proofs.Split.{by_test, if_false}
 use Rattle.model.proofs.Memory.{part_inside, get_d_part}
 use Rattle.model.proofs.Number.{none_some, some_inj, nth_below}

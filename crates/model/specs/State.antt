@@ -1,5 +1,5 @@
 -- The state of a serializer: its memory and cursor, its flags, the objects open and packed, and the slots and link cells in use.
-use Rattle.std.specs.Prelude.{ℕ, suc, ◌+◌, ◌-◌, Bool, true, false, ltb, List, [], ◌∷◌, length, Some, None, Option, ◌==◌, nat_lt}
+use Rattle.std.specs.Prelude.{ℕ, suc, ◌+◌, ◌-◌, Bool, true, false, List, [], ◌∷◌, length, Some, None, Option, ◌==◌, nat_lt}
 use Rattle.cursor.specs.declared.flags.SerializeErrorFlags.{SerializeErrorFlags}
 use Rattle.cursor.specs.Flags.{joined}
 use Rattle.link.specs.declared.Link.{Link}
@@ -47,7 +47,7 @@ numbered (◌∷◌ p ps) k = elim (length ps == k) [ true ↦ Some p | false �
 -- ---- slots and link cells
 
 abbrev pub slot_free : Pool → Bool
-slot_free p = elim p.released [ [] ↦ ltb p.used p.slots | ◌∷◌ x xs ↦ true ]
+slot_free p = elim p.released [ [] ↦ nat_lt p.used p.slots | ◌∷◌ x xs ↦ true ]
 
 -- the slot released last, else the lowest never used
 abbrev pub slot_next : Pool → PoolIdx

@@ -1,5 +1,7 @@
 // The meaning of the serializer: its state, what each call does, and what holds of every run of calls. The
 // definitions stand in specs/; the functions here carry the theorems about them on their contracts.
+#![tactic(auto)]
+
 ghost use Rattle.model.specs.Edges.{Edges};
 ghost use Rattle.model.specs.Law.{LawStands};
 ghost use Rattle.model.specs.Owning.{Owning};

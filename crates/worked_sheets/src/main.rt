@@ -1,4 +1,6 @@
 // Prints the worked sheets, whose outcome is proved of the model, as readable lines.
+#![tactic(auto)]
+
 mod sheet;
 mod table;
 

@@ -1,6 +1,6 @@
 // The worked sheets: calls with what each must answer, then the flags and the output that they must leave.
 ghost use Rattle.std.specs.Prelude.{◌≡◌, map};
-ghost use Rattle.model.specs.Sheets.{sheets as proved-sheets};
+ghost use Rattle.model.specs.Sheets.{sheets as proved_sheets};
 ghost use Rattle.worked_sheets.specs.Table.{sheet_of};
 
 use crate::sheet::{Line, Reply, Sheet};
@@ -346,7 +346,7 @@ static SHEETS: [Sheet<'static>; 21] = [
 
 // All of them: the very table that is proved of the model.
 pub fn sheets() -> &'static [Sheet<'static>]
-    ensures answer { map sheet_of result.now ≡ proved-sheets }
+    ensures answer { map sheet_of result.now ≡ proved_sheets }
 {
     &SHEETS
 }
