@@ -1,4 +1,6 @@
 // The published test vectors of FNV-1a at 64 bits, each hashed and compared.
+#![tactic(auto)]
+
 use anyhow::anyhow;
 use fnv::fnv1a;
 

@@ -1,4 +1,6 @@
 // From the glyph ids in use, one to a line of a file, a Coverage table of OpenType, shown field by field.
+#![tactic(auto)]
+
 use anyhow::anyhow;
 use coverage::glyph_set;
 use coverage::table::{CoverageFault, coverage_table};
