@@ -217,12 +217,12 @@ module _ (b : Beginning) where
 
     next_by : (c : Call) → Turning c → MayRevert b (role c) cs → NotOlder (length before) (role c) → depth (at b before) ≤ depth (at b (c ∷ cs)) → Within (at b before) (at b (c ∷ cs))
     next_by c (ahead n) live l deep = plain c n deep
-    next_by c (back j) live l deep = turned j live l
-    next_by c (away p) live l deep = absurd live
+    next_by c (back j) live l _ = turned j live l
+    next_by c (away p) live l _ = absurd live
 
     next : (c : Call) → MayRevert b (role c) cs → (NotOlder (length before) (role c) ⊎ (at b (c ∷ cs) ≡ at b cs)) → depth (at b before) ≤ depth (at b (c ∷ cs)) → Within (at b before) (at b (c ∷ cs))
     next c live (inl l) deep = next_by c (turning c) live l deep
-    next c live (inr e) deep = subst (λ (x : State). Within (at b before) x) (sym e) w
+    next c live (inr e) _ = subst (λ (x : State). Within (at b before) x) (sym e) w
 
   pub nest : (cs : List Call) → LiveRun b cs → All Undug cs
   nest [] live = λ before since e t o. first before since e

@@ -22,7 +22,7 @@ use Rattle.model.specs.Run.Answer.{Bytes}
 use Rattle.model.specs.Moments.{at, span}
 use Rattle.model.specs.Offsets.{distance, shown, FieldOf, from, to, Inside, MeetsNone, ReadsBack, contents, LawC}
 use Rattle.model.proofs.Split.{by_test, if_false}
-use Rattle.model.proofs.Memory.{part_inside, get_d_part}
+use Rattle.model.proofs.Memory.{part_inside, get_or_part}
 use Rattle.model.proofs.Number.{none_some, some_inj, nth_below}
 use Rattle.model.proofs.Sound.{under_end}
 use Rattle.model.proofs.Packing.{not_hard}
@@ -130,10 +130,10 @@ module _ (b : Beginning) (cs : List Call) (going : (at b cs).ended ≡ false) (e
 
   unchanged : (j : ℕ) → j < length (drop s₃.tail s₃.memory) → (Inside s₃ (o.head + j) → ⊥) → get_or (drop s₃.tail s₃.memory) j 0 ≡ get_or (part s.memory o.head s.head ++ contents s s.packed) j 0
   unchanged j l out =
-      get_or-drop s₃.tail s₃.memory j 0 ∙ (ap (λ (x : ℕ). get_or s₃.memory (x + j) 0) e.placed.tail ∙ (get_d_part s₃.memory (w.tail + j)
+      get_or-drop s₃.tail s₃.memory j 0 ∙ (ap (λ (x : ℕ). get_or s₃.memory (x + j) 0) e.placed.tail ∙ (get_or_part s₃.memory (w.tail + j)
       ∙ (ap (λ (x : List ℕ). get_or x 0 0) (outside (w.tail + j) (suc (w.tail + j)) (λ k i h t ne.
       elim (cases_lt (w.tail + j) h.place) [ inl u ↦ inl u | inr u ↦ elim (cases_lt (w.tail + j) (h.place + h.width)) [ inl v ↦ absurd (out (inside_so j k i h t ne u v)) | inr v ↦ inr v ] ]))
-      ∙ (sym (get_d_part w.memory (w.tail + j)) ∙ (sym (get_or-drop w.tail w.memory j 0) ∙ ap (λ (x : List ℕ). get_or x j 0) (sym before_is))))))
+      ∙ (sym (get_or_part w.memory (w.tail + j)) ∙ (sym (get_or-drop w.tail w.memory j 0) ∙ ap (λ (x : List ℕ). get_or x j 0) (sym before_is))))))
 
   -- ---- a field read
 
