@@ -20,7 +20,7 @@ length_written m bs at w room sized =
 
 pub glyph_array_more : (gs : List ℕ) (g : ℕ) → glyph_array (gs ++ (g ∷ [])) ≡ glyph_array gs ++ big_endian 2 g
 glyph_array_more [] g = append-nil (big_endian 2 g)
-glyph_array_more (◌∷◌ x gs) g = ap (λ bs. big_endian 2 x ++ bs) (glyph_array_more gs g) ∙ sym (append_assoc (big_endian 2 x) (glyph_array gs) (big_endian 2 g))
+glyph_array_more (x ∷ gs) g = ap (λ bs. big_endian 2 x ++ bs) (glyph_array_more gs g) ∙ sym (append_assoc (big_endian 2 x) (glyph_array gs) (big_endian 2 g))
 
 -- an answer that is there tells that its test held
 pub was_there : (b : Bool) (x y : ℕ) → Some x ≡ cond b (Some y) None → b ≡ true

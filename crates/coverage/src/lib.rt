@@ -1,4 +1,6 @@
 // The Coverage table of OpenType, format 1: which glyphs a subtable is about, in numerical order.
+#![tactic(auto)]
+
 ghost use Rattle.std.specs.Prelude.{◌≡◌};
 ghost use Rattle.std.specs.List.Sorted.{IsNonDecreasing};
 ghost use Rattle.coverage.specs.Coverage.{Ascending, among};
@@ -11,7 +13,7 @@ fn sorted(ids: Vec<u16>) -> Vec<u16>
     ensures same { among result.items ≡ among ids.items }
 {
     let mut glyphs = ids;
-    glyphs.sort();
+    glyphs.sort_unstable();
     glyphs
 }
 

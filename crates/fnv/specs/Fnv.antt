@@ -14,7 +14,7 @@ fed hash byte = (bit_xor hash byte * fnv_prime) % 2 ^ 64
 -- the bytes fed one after another, from a hash on
 abbrev pub hashed_from : ℕ → List ℕ → ℕ
 hashed_from hash [] = hash
-hashed_from hash (◌∷◌ byte bytes) = hashed_from (fed hash byte) bytes
+hashed_from hash (byte ∷ bytes) = hashed_from (fed hash byte) bytes
 
 abbrev pub hashed : List ℕ → ℕ
 hashed bytes = hashed_from offset_basis bytes

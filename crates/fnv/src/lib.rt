@@ -1,5 +1,7 @@
 // FNV-1a at 64 bits, as its public description has it: from the offset basis on, for each byte an exclusive
 // or with the byte, then a multiplication by the FNV prime, kept to 64 bits.
+#![tactic(auto)]
+
 ghost use Rattle.std.specs.Prelude.{◌≡◌};
 ghost use Rattle.fnv.specs.Fnv.{offset_basis, fed, hashed_from, hashed};
 

@@ -1,4 +1,4 @@
--- What links feed to the hash of their object: each field in a fixed number of bytes, big_endian, so that equal lists feed alike.
+-- What links feed to the hash of their object: each field in a fixed number of bytes, big-endian, so that equal lists feed alike.
 use Rattle.std.specs.Prelude.{ℕ, Bool, cond, List, [], ◌∷◌, ◌++◌}
 use Rattle.scalar.specs.BigEndian.{big_endian}
 use Rattle.link.specs.declared.Link.{Link}
@@ -23,4 +23,4 @@ link_feed l =
 -- one link after another
 abbrev pub links_feed : List Link → List ℕ
 links_feed [] = []
-links_feed (◌∷◌ l ls) = link_feed l ++ links_feed ls
+links_feed (l ∷ ls) = link_feed l ++ links_feed ls

@@ -1,5 +1,5 @@
 -- The widths of an offset field, by their number of bytes.
-use Rattle.std.specs.Prelude.{ℕ, Bool, true, false, cond, Some, None, Option, ◌==◌}
+use Rattle.std.specs.Prelude.{ℕ, cond, Some, None, Option, ◌==◌}
 use Rattle.link.specs.declared.LinkWidth.{LinkWidth}
 use Rattle.link.specs.declared.LinkWidth.TheVariants.{Zero, Two, Three, Four}
 

@@ -1,5 +1,7 @@
 // What a link is: where an offset field stands in its object, how wide it is, from where the offset is
 // measured, and the number of the object that it leads to.
+#![tactic(auto)]
+
 ghost use Rattle.std.specs.Prelude.{◌≡◌, Decides};
 ghost use Rattle.link.specs.Width.{width_of_length, bytes_of_width};
 

@@ -1,4 +1,6 @@
 // Parts of the serializer's memory: looked at, compared, hashed, written, cleared and moved over themselves.
+#![tactic(auto)]
+
 ghost use Rattle.std.specs.Prelude.{◌≡◌, ◌+◌, ◌-◌, ◌≤◌, length, take, replicate, if◌then◌else◌, vec_len, nat_le};
 ghost use Rattle.fnv.specs.Fnv.{offset_basis, hashed_from};
 ghost use Rattle.scalar.specs.Place.{room, write, part};

@@ -12,7 +12,6 @@ pub mod lists;
 pub mod opens;
 pub mod reads;
 pub mod stacks;
-pub mod starts;
 
 // The object in the slot i has the list 2i of `links` as its real links and the list 2i + 1 as its virtual
 // ones. Slots from `used` on have never held an object.

@@ -1,4 +1,6 @@
 // The offsets of links, measured between packed objects, and the fields that they are written into.
+#![tactic(auto)]
+
 pub mod measure;
 pub mod passes;
 pub mod writing;

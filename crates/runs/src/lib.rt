@@ -1,4 +1,6 @@
 // Lists of calls run on a new serializer, with any register, and what each call answered.
+#![tactic(auto)]
+
 pub mod answer;
 pub mod outcome;
 mod reading;

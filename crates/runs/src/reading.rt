@@ -1,7 +1,7 @@
 // The calls that only read.
 ghost use Rattle.std.specs.Prelude.{◌≡◌, IfOk, vec_items};
 ghost use Rattle.std.specs.Option.{option_map};
-ghost use Rattle.model.specs.Reading.{copied, object as object-seen};
+ghost use Rattle.model.specs.Reading.{copied, object as object_seen};
 ghost use Rattle.model.specs.Run.{reading};
 ghost use Rattle.calls.specs.Meaning.{reading_of};
 ghost use Rattle.serialize.specs.View.{view};
@@ -30,7 +30,7 @@ fn copy_bytes(heap: Global, s: &Serializer, room: usize) -> Result<Option<Vec<u8
 
 // A packed object, with a copy of its bytes.
 fn object(heap: Global, s: &Serializer, number: ObjIdx) -> Result<Option<SeenObject>, AllocError>
-    ensures answer { IfOk result (λ o. option_map seen_as o ≡ object-seen number (view s.now)) }
+    ensures answer { IfOk result (λ o. option_map seen_as o ≡ object_seen number (view s.now)) }
 {
     let Some(object) = s.object(number) else {
         return Ok(None);

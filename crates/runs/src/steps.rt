@@ -1,6 +1,6 @@
 // One call of a list made.
 ghost use Rattle.std.specs.Prelude.{◌≡◌, IfOk};
-ghost use Rattle.model.specs.Run.{call as call-made, taken, taken_at, revert_to};
+ghost use Rattle.model.specs.Run.{call as call_made, taken, taken_at, revert_to};
 ghost use Rattle.calls.specs.Meaning.{call_of};
 ghost use Rattle.serialize.specs.View.{view};
 ghost use Rattle.runs.specs.Told.{answer_of, told};
@@ -67,9 +67,9 @@ pub(crate) fn step<R: Register>(
     answers: &Vec<Answer>,
     next: Call<'_>,
 ) -> Result<Answer, AllocError>
-    ensures answer { IfOk result (λ a. answer_of a ≡ (call-made (call_of next.entry) (view s.old) (R.Register.holds register.old) (told answers.now.items)).answer) }
-    ensures state { view s.new ≡ (call-made (call_of next.entry) (view s.old) (R.Register.holds register.old) (told answers.now.items)).state }
-    ensures register { R.Register.holds register.new ≡ (call-made (call_of next.entry) (view s.old) (R.Register.holds register.old) (told answers.now.items)).register }
+    ensures answer { IfOk result (λ a. answer_of a ≡ (call_made (call_of next.entry) (view s.old) (R.Register.holds register.old) (told answers.now.items)).answer) }
+    ensures state { view s.new ≡ (call_made (call_of next.entry) (view s.old) (R.Register.holds register.old) (told answers.now.items)).state }
+    ensures register { R.Register.holds register.new ≡ (call_made (call_of next.entry) (view s.old) (R.Register.holds register.old) (told answers.now.items)).register }
 {
     match next {
         Call::SetErr(flags) => Ok(Answer::Flags(s.set_err(flags))),

@@ -1,6 +1,6 @@
 -- Numbers as the OpenType data types lay them out: a number of w bytes stands with its most significant byte first.
 use Rattle.std.specs.Prelude.{◌≡◌, ℕ, zero, suc, ◌+◌, ◌*◌, ◌/◌, ◌%◌, ◌^◌, ◌<◌, List, [], ◌∷◌, length}
-use Rattle.std.specs.List.{AllByRecursion as All}
+use Rattle.std.specs.List.{AllByRecursion}
 
 -- the number that bytes show, the most significant first
 abbrev pub number : List ℕ → ℕ
@@ -14,7 +14,7 @@ big_endian (suc k) n = (n / 256 ^ k % 256) ∷ big_endian k n
 
 -- each of them is a byte
 abbrev pub Bytes : List ℕ → Type 0
-Bytes bs = All (λ b. b < 256) bs
+Bytes bs = AllByRecursion (λ b. b < 256) bs
 
 -- what makes it a notation, at every width: a number has w bytes, which show what of it is below 256 ^ w, and any w bytes are those of the number that they show
 pub record Notation : Type 0 where

@@ -1,5 +1,5 @@
 pub mod BigEndian
 pub mod Kinds
+pub mod Laws
 pub mod Place
-pub mod BigEndianLemmas
 pub mod Small

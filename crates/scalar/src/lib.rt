@@ -1,4 +1,6 @@
 // Numbers and tags that stand in a font file as one to four bytes, the most significant first.
+#![tactic(auto)]
+
 ghost use Rattle.std.specs.Prelude.{◌≡◌, ℕ, suc, ◌/◌, ◌^◌, ◌≤◌, Bool, List, length, take, if◌then◌else◌, Some, None, nat_le};
 ghost use Rattle.scalar.specs.BigEndian.{Bytes, Notation, big_endian};
 ghost use Rattle.scalar.specs.Place.{in_four};

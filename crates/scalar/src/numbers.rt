@@ -1,9 +1,9 @@
-// The numbers of Rust as scalars, in big_endian bytes: a signed one by its two's complement.
+// The numbers of Rust as scalars, in big-endian bytes: a signed one by its two's complement.
 ghost use Rattle.std.specs.Prelude.{◌-◌, ◌/◌, ◌^◌, ◌<◌, true, false, pos, FitsSigned};
 ghost use Rattle.std.proofs.Common.{to_z, of_z, rules, ap, ◌∙◌};
 ghost use Rattle.std.specs.Int.{w16};
 ghost use Rattle.scalar.specs.BigEndian.{number, big_endian};
-ghost use Rattle.scalar.specs.BigEndianLemmas.{big_endian_again, number_below};
+ghost use Rattle.scalar.specs.Laws.{number_shown};
 ghost use Rattle.std.proofs.lemmas.Int.{of_z-to_z};
 
 use crate::{CountScalar, Scalar};
@@ -27,7 +27,7 @@ impl Scalar for u8 {
 
     ghost back = { Prim.search rules };
 
-    ghost again = { big_endian_again 1 };
+    ghost again = { λ bs l e. (number_shown 1 bs l e).1 };
 
     fn size() -> usize {
         1
@@ -61,7 +61,7 @@ impl Scalar for u16 {
 
     ghost back = { Prim.search rules };
 
-    ghost again = { big_endian_again 2 };
+    ghost again = { λ bs l e. (number_shown 2 bs l e).1 };
 
     fn size() -> usize {
         2
@@ -98,7 +98,7 @@ impl Scalar for i16 {
 
     ghost back = { Prim.search rules };
 
-    ghost again = { λ bs l e. ap (big_endian 2) (of_z-to_z w16 (number bs) (number_below 2 bs l e)) ∙ big_endian_again 2 bs l e };
+    ghost again = { λ bs l e. let shown = number_shown 2 bs l e in ap (big_endian 2) (of_z-to_z w16 (number bs) shown.0) ∙ shown.1 };
 
     fn size() -> usize {
         u16::size()
@@ -132,7 +132,7 @@ impl Scalar for u32 {
 
     ghost back = { Prim.search rules };
 
-    ghost again = { big_endian_again 4 };
+    ghost again = { λ bs l e. (number_shown 4 bs l e).1 };
 
     fn size() -> usize {
         4

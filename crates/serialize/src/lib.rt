@@ -1,5 +1,7 @@
 // The serializer: OpenType subtables packed into one memory from both ends, with their offsets resolved at
 // the end. All calls are methods of one type.
+#![tactic(auto)]
+
 pub mod serializer;
 
 pub use cursor::flags::SerializeErrorFlags;

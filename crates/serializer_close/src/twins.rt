@@ -4,7 +4,7 @@ ghost use Rattle.std.specs.Option.{option_map};
 ghost use Rattle.scalar.specs.Place.{part};
 ghost use Rattle.model.specs.State.{index};
 ghost use Rattle.model.specs.Declining.{nothing_open};
-ghost use Rattle.model.specs.Closing.{twin as least-twin};
+ghost use Rattle.model.specs.Closing.{hash as hashed, twin as least_twin};
 ghost use Rattle.model.specs.Reading.{real_of};
 ghost use Rattle.objects.specs.Change.{first};
 ghost use Rattle.serializer_state.specs.View.{view};
@@ -31,6 +31,13 @@ fn like(s: &SerializerState, number: ObjIdx, at: Extent) -> bool
             .same_links(Which::Numbered(number), Which::Innermost)
 }
 
+// The hash of the bytes at an extent and of the real links of the innermost object.
+pub(crate) fn hash_at(s: &SerializerState, at: Extent) -> u64
+    ensures answer { result ≡ hashed (part (view s.now).memory at.head at.tail) (real_of (first (view s.now).opened)) }
+{
+    s.hash_of(Which::Innermost, at)
+}
+
 // The least number entered under the hash whose object has the bytes at an extent and the real links of the
 // innermost object.
 pub(crate) fn find_twin<R: Register>(
@@ -40,7 +47,7 @@ pub(crate) fn find_twin<R: Register>(
     at: Extent,
 ) -> Option<ObjIdx>
     requires opened { nothing_open (view s.now) ≡ false }
-    ensures answer { result ≡ option_map index (least-twin (view s.now).memory (R.Register.holds register.now) hash (part (view s.now).memory at.head at.tail) (real_of (first (view s.now).opened)) (view s.now).packed) }
+    ensures answer { result ≡ option_map index (least_twin (view s.now).memory (R.Register.holds register.now) hash (part (view s.now).memory at.head at.tail) (real_of (first (view s.now).opened)) (view s.now).packed) }
 {
     let mut from = ObjIdx(0);
     while let Some(number) = register.next(hash, from) {

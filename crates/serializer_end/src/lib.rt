@@ -1,4 +1,6 @@
 // Ending a serializer: the last object is closed, and the offsets of links are written into their fields.
+#![tactic(auto)]
+
 mod ends;
 mod resolving;
 

@@ -1,4 +1,6 @@
 // Links of the open object, to objects by their numbers, and the order of its children.
+#![tactic(auto)]
+
 pub mod adds;
 pub mod repacks;
 

@@ -58,7 +58,7 @@ pub fn begin<R: Register>(memory: Memory, register: &R) -> SerializerState
     let limit = memory.check(register);
     let (bytes, objects) = memory.into_parts();
     match limit {
-        Some(_) => over_nothing(bytes.allocator()),
+        Some(_) => over_nothing(*bytes.allocator()),
         None => over(bytes, objects),
     }
 }

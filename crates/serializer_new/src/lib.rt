@@ -1,4 +1,6 @@
 // The memory that a serializer is given, and the state that it begins in.
+#![tactic(auto)]
+
 pub mod begins;
 pub mod storage;
 

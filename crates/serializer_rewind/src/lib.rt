@@ -1,4 +1,6 @@
 // Going back: the open object discarded, and snapshots taken and reverted to.
+#![tactic(auto)]
+
 mod discards;
 mod rewinds;
 mod snapshots;

@@ -2,7 +2,7 @@
 ghost use Rattle.std.specs.Prelude.{◌≡◌};
 ghost use Rattle.model.specs.Rewinding.{same_slot, open_slot, real_count, virtual_count, snapshot as recorded, revert_snapshot};
 ghost use Rattle.serializer_state.specs.View.{view};
-ghost use Rattle.serializer_rewind.specs.Left.{stale as is-stale, restored};
+ghost use Rattle.serializer_rewind.specs.Left.{stale as is_stale, restored};
 
 use crate::rewinds::rewind;
 use cursor::flags::SerializeErrorFlags;
@@ -56,7 +56,7 @@ fn same(a: Option<PoolIdx>, b: Option<PoolIdx>) -> bool
 
 // Whether a snapshot is not reverted to: nothing can be, or another slot is open, or its tail is past the end.
 fn stale(s: &SerializerState, current: Option<PoolIdx>, tail: usize) -> bool
-    ensures answer { result ≡ is-stale current tail (view s.now) }
+    ensures answer { result ≡ is_stale current tail (view s.now) }
 {
     if s.idle() {
         return true;

@@ -1,5 +1,5 @@
 // Bytes at a place that was taken before: assigned, and read.
-ghost use Rattle.std.specs.Prelude.{◌≡◌, ◌+◌, leb, IfSome, if◌then◌else◌, Some, None, nat_le};
+ghost use Rattle.std.specs.Prelude.{◌≡◌, ◌+◌, IfSome, if◌then◌else◌, Some, None, nat_le};
 ghost use Rattle.std.specs.Option.{option_map};
 ghost use Rattle.model.specs.Writing.{copy_assign_from_bytes, copy_assign, check_assign};
 ghost use Rattle.model.specs.Reading.{value_at};
@@ -53,8 +53,8 @@ pub fn check_assign<S: CountScalar>(
     count: usize,
     flags: SerializeErrorFlags,
 ) -> Result<(), SerializeErrorFlags>
-    ensures answer { result ≡ (check_assign at (option_map S.Scalar.bytes (if leb count S.CountScalar.most then Some (S.CountScalar.counting count) else None)) flags (view s.old)).1 }
-    ensures state { view s.new ≡ (check_assign at (option_map S.Scalar.bytes (if leb count S.CountScalar.most then Some (S.CountScalar.counting count) else None)) flags (view s.old)).0 }
+    ensures answer { result ≡ (check_assign at (option_map S.Scalar.bytes (if nat_le count S.CountScalar.most then Some (S.CountScalar.counting count) else None)) flags (view s.old)).1 }
+    ensures state { view s.new ≡ (check_assign at (option_map S.Scalar.bytes (if nat_le count S.CountScalar.most then Some (S.CountScalar.counting count) else None)) flags (view s.old)).0 }
 {
     if s.ended {
         return Err(s.refusal());

@@ -1,12 +1,12 @@
-// Opening an object, inside the open one or as the first, and how long the open one is.
+// Opening an object: inside the open one, or as the first.
 ghost use Rattle.std.specs.Prelude.{◌≡◌, if◌then◌else◌};
 ghost use Rattle.model.specs.State.{slot_free};
+ghost use Rattle.model.specs.Declining.{nothing_open};
 ghost use Rattle.model.specs.Opening.{opening, push as pushed, start_serialize};
-ghost use Rattle.model.specs.Reading.{open_length};
 ghost use Rattle.serializer_state.specs.View.{view};
 
 use cursor::flags::SerializeErrorFlags;
-use objects::{Extent, Which};
+use objects::Extent;
 use serializer_state::SerializerState;
 
 // Opens an object that records head and tail: false where no slot is free.
@@ -38,6 +38,13 @@ pub fn push(s: &mut SerializerState) -> Result<(), SerializeErrorFlags>
     Ok(())
 }
 
+// Whether no object is open.
+fn none_open(s: &SerializerState) -> bool
+    ensures answer { result ≡ nothing_open (view s.now) }
+{
+    s.nothing_open()
+}
+
 // Opens the first object: declined while one is open.
 pub fn start_serialize(s: &mut SerializerState) -> Result<(), SerializeErrorFlags>
     ensures answer { result ≡ (start_serialize (view s.old)).1 }
@@ -46,18 +53,8 @@ pub fn start_serialize(s: &mut SerializerState) -> Result<(), SerializeErrorFlag
     if s.ended {
         return Err(s.refusal());
     }
-    if !s.nothing_open() {
+    if !none_open(s) {
         return Err(s.flag(SerializeErrorFlags::SERIALIZE_ERROR_OTHER));
     }
     push(s)
-}
-
-// How many bytes were taken since the open object was opened: 0 if head lies before its start, or none is open.
-pub fn length(s: &SerializerState) -> usize
-    ensures answer { result ≡ open_length (view s.now) }
-{
-    match s.objects.outline(Which::Innermost) {
-        Some(object) => s.cursor.head.saturating_sub(object.extent.head),
-        None => 0,
-    }
 }

@@ -1,17 +1,85 @@
-// Opening objects, closing them, and letting go of them.
-ghost use Rattle.std.specs.Prelude.{◌≡◌, if◌then◌else◌};
+// Opening objects, closing them, and letting go of them; and the state in which none is.
+ghost use Rattle.std.specs.Prelude.{◌≡◌, ◌*◌, ◌≤◌, [], replicate, if◌then◌else◌, IfOk, vec_len, vec_capacity};
+ghost use Rattle.links.specs.Meaning.{lists, cells};
 ghost use Rattle.model.specs.State.{slot_free};
 ghost use Rattle.objects.specs.Contents.{contents};
-ghost use Rattle.objects.specs.Change.{opens as Opened-with, closes, packs, discards, unpacks};
+ghost use Rattle.objects.specs.Change.{fresh, opens as opened_with, closes, packs, discards, unpacks};
 
 use super::Objects;
 use crate::extents::Extent;
+use link::PoolIdx;
+use links::Links;
+use std::alloc::{AllocError, Global};
 
 impl Objects {
+    // No slot in use of as many as there are extents; each has two of the lists.
+    fn unused(
+        extents: Vec<Extent>,
+        links: Links,
+        opened: Vec<PoolIdx>,
+        packed: Vec<PoolIdx>,
+        released: Vec<PoolIdx>,
+    ) -> Objects
+        requires paired { lists links ≡ replicate (vec_len extents * 2) [] }
+        requires empty { (opened.items ≡ []) × (packed.items ≡ []) × (released.items ≡ []) }
+        requires reserved { (vec_len extents ≤ vec_capacity opened) × (vec_len extents ≤ vec_capacity packed) × (vec_len extents ≤ vec_capacity released) }
+        ensures answer { contents result ≡ fresh (vec_len extents) (cells links) }
+    {
+        Objects {
+            extents,
+            links,
+            opened,
+            packed,
+            released,
+            used: 0,
+        }
+    }
+
+    // So many slots and link cells, none of them in use. A number of slots whose double passes the largest
+    // `usize` is refused as memory that there is not.
+    pub fn new(heap: Global, slot_count: usize, cell_count: usize) -> Result<Objects, AllocError>
+        ensures answer { IfOk result (λ s. contents s ≡ fresh slot_count cell_count) }
+    {
+        let Some(list_count) = slot_count.checked_mul(2) else {
+            return Err(AllocError);
+        };
+        let extents = vec![in heap; Extent { head: 0, tail: 0 }; slot_count]?;
+        let links = Links::new(heap, list_count, cell_count)?;
+        let opened = Vec::with_capacity(heap, slot_count)?;
+        let packed = Vec::with_capacity(heap, slot_count)?;
+        let released = Vec::with_capacity(heap, slot_count)?;
+        Ok(Objects::unused(extents, links, opened, packed, released))
+    }
+
+    // No slot and no link cell. Nothing is allocated.
+    pub fn none(heap: Global) -> Objects
+        ensures answer { contents result ≡ fresh 0 0 }
+    {
+        Objects::unused(
+            Vec::new(heap),
+            Links::none(heap),
+            Vec::new(heap),
+            Vec::new(heap),
+            Vec::new(heap),
+        )
+    }
+
+    // As new, over the same slots and link cells, also those of objects that are on no stack. Nothing is
+    // allocated; it takes a step a slot.
+    pub fn reset(&mut self)
+        ensures state { contents self.new ≡ fresh (contents self.old).pool.slots (contents self.old).pool.cells }
+    {
+        self.links.clear_all();
+        self.opened.clear();
+        self.packed.clear();
+        self.released.clear();
+        self.used = 0;
+    }
+
     // Opens an object, inside the innermost: false where no slot is free.
     pub fn open(&mut self, extent: Extent) -> bool
         ensures answer { result ≡ slot_free (contents self.old).pool }
-        ensures state { contents self.new ≡ (if result then Opened-with extent (contents self.old) else contents self.old) }
+        ensures state { contents self.new ≡ (if result then opened_with extent (contents self.old) else contents self.old) }
     {
         let Some(slot) = self.take_slot() else {
             return false;

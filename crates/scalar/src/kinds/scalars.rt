@@ -4,7 +4,7 @@ ghost use Rattle.std.specs.Prelude.{◌≡◌, ℕ, ◌-◌, ◌%◌, ◌^◌, f
 ghost use Rattle.std.proofs.Common.{ap, ◌∙◌, mod-eq_of_lt, rules, arith};
 ghost use Rattle.scalar.specs.BigEndian.{number, big_endian, Bytes};
 ghost use Rattle.scalar.specs.Kinds.{value_of, uint24, tag_bytes, tag};
-ghost use Rattle.scalar.specs.BigEndianLemmas.{number_back, number_below, big_endian_again};
+ghost use Rattle.scalar.specs.Laws.{number_big_endian, number_shown};
 ghost use Rattle.scalar.specs.Small.{same_uint24};
 ghost use Rattle.std.specs.Cmp.Lexicographic.{pointwise};
 ghost use Rattle.std.specs.Cmp.Rules.{comparing};
@@ -42,17 +42,17 @@ impl Scalar for Uint24 {
 
     ghost fits = { λ _. Unit {0} };
 
-    ghost wide = { first_of (Prim.search rules, Prim.grind (arith, Self.row.coded.inj)) };
+    ghost wide = { Prim.search rules };
 
-    ghost short = { first_of (Prim.search rules, Prim.grind (arith, Self.row.coded.inj)) };
+    ghost short = { Prim.search rules };
 
-    ghost sized = { first_of (Prim.search rules, Prim.grind (arith, Self.row.coded.inj)) };
+    ghost sized = { Prim.search rules };
 
-    ghost small = { first_of (Prim.search rules, Prim.grind (arith, Self.row.coded.inj)) };
+    ghost small = { Prim.search rules };
 
-    ghost back = { λ x u. same_uint24 _ _ (ap (λ (n : ℕ). n % 256 ^ 3) (number_back 3 x.value x.small) ∙ mod-eq_of_lt x.small) };
+    ghost back = { λ x u. same_uint24 _ _ (ap (λ (n : ℕ). n % 256 ^ 3) (number_big_endian 3 x.value ∙ mod-eq_of_lt x.small) ∙ mod-eq_of_lt x.small) };
 
-    ghost again = { λ bs l e. ap (big_endian 3) (mod-eq_of_lt (number_below 3 bs l e)) ∙ big_endian_again 3 bs l e };
+    ghost again = { λ bs l e. let shown = number_shown 3 bs l e in ap (big_endian 3) (mod-eq_of_lt shown.0) ∙ shown.1 };
 
     fn size() -> usize {
         3
@@ -78,11 +78,11 @@ impl CountScalar for Uint24 {
 
     ghost counting = { uint24 };
 
-    ghost largest = { first_of (Prim.search rules, Prim.grind (arith, Self.row.coded.inj)) };
+    ghost largest = { Prim.search rules };
 
-    ghost held = { first_of (Prim.search rules, Prim.grind (arith, Self.row.coded.inj)) };
+    ghost held = { Prim.search rules };
 
-    ghost counted = { first_of (Prim.search rules, Prim.grind (arith, Self.row.coded.inj)) };
+    ghost counted = { Prim.search rules };
 
     fn from_count(n: usize) -> Option<Uint24> {
         match u32::try_from(n) {

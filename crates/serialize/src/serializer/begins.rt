@@ -1,6 +1,6 @@
 // Where a serializer begins, and where its memory goes when it is done with.
 ghost use Rattle.std.specs.Prelude.{◌≡◌, length};
-ghost use Rattle.model.specs.New.{new as begun-with};
+ghost use Rattle.model.specs.New.{new as begun_with};
 ghost use Rattle.serializer_new.specs.Amount.{size_of, slots_of, cells_of};
 ghost use Rattle.serialize.specs.View.{view};
 
@@ -12,7 +12,7 @@ impl Serializer {
     // A new serializer over a memory, which is cleared. Where the memory or the register does not keep a limit,
     // it is ended, over no memory, with OTHER.
     pub fn new<R: Register>(memory: Memory, register: &R) -> Serializer
-        ensures answer { view result ≡ begun-with (size_of memory) (slots_of memory) (cells_of memory) (R.Register.holds register.now).capacity }
+        ensures answer { view result ≡ begun_with (size_of memory) (slots_of memory) (cells_of memory) (R.Register.holds register.now).capacity }
     {
         Serializer {
             state: begin(memory, register),

@@ -1,7 +1,7 @@
 // The flags: set by the caller, and what is asked of those that stand.
 ghost use Rattle.std.specs.Prelude.{◌≡◌};
 ghost use Rattle.model.specs.Declining.{set_err as joins};
-ghost use Rattle.model.specs.Reading.{error as flags_of, in_error, successful as is-successful, ran_out_of_room, has_offset_overflow, only_offset_overflow, only_overflow};
+ghost use Rattle.model.specs.Reading.{error as flags_of, in_error, successful as is_successful, ran_out_of_room, has_offset_overflow, only_offset_overflow, only_overflow};
 ghost use Rattle.serialize.specs.View.{view};
 
 use super::Serializer;
@@ -32,7 +32,7 @@ impl Serializer {
 
     // Whether no flag stands.
     pub fn successful(&self) -> bool
-        ensures answer { result ≡ is-successful (view self.now) }
+        ensures answer { result ≡ is_successful (view self.now) }
     {
         self.state.flags.successful()
     }

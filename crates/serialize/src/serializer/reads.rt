@@ -1,7 +1,7 @@
 // What can be read: places and lengths, packed objects with their links, and the output.
 ghost use Rattle.std.specs.Prelude.{◌≡◌};
 ghost use Rattle.std.specs.Option.{option_map};
-ghost use Rattle.model.specs.Reading.{allocated as allocated-of, open_length, packed_count, object as object-seen, real_link, virtual_link, copy_bytes};
+ghost use Rattle.model.specs.Reading.{allocated as allocated_of, open_length, packed_count, object as object_seen, real_link, virtual_link, copy_bytes};
 ghost use Rattle.serializer_read.specs.Reads.{seen_in};
 ghost use Rattle.serialize.specs.View.{view};
 
@@ -27,7 +27,7 @@ impl Serializer {
 
     // How many bytes the memory has.
     pub fn allocated(&self) -> usize
-        ensures answer { result ≡ allocated-of (view self.now) }
+        ensures answer { result ≡ allocated_of (view self.now) }
     {
         self.state.memory.len()
     }
@@ -48,7 +48,7 @@ impl Serializer {
 
     // The packed object of a number, if there is one.
     pub fn object(&self, number: ObjIdx) -> Option<ObjectView<'_>>
-        ensures answer { option_map seen_in result ≡ object-seen number (view self.now) }
+        ensures answer { option_map seen_in result ≡ object_seen number (view self.now) }
     {
         serializer_read::object(&self.state, number)
     }

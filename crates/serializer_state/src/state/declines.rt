@@ -1,7 +1,7 @@
 // Flags joined, and the tests that calls begin with.
 ghost use Rattle.std.specs.Prelude.{◌≡◌};
 ghost use Rattle.cursor.specs.Flags.{joined, none, other};
-ghost use Rattle.model.specs.Declining.{set_err as joins, idle as is-idle, nothing_open};
+ghost use Rattle.model.specs.Declining.{set_err as joins, idle as is_idle, nothing_open};
 ghost use Rattle.model.specs.State.{flag};
 ghost use Rattle.serializer_state.specs.View.{view};
 
@@ -36,7 +36,7 @@ impl SerializerState {
 
     // Whether nothing is closed, discarded or reverted: it is ended, or a hard flag stands.
     pub fn idle(&self) -> bool
-        ensures answer { result ≡ is-idle (view self.now) }
+        ensures answer { result ≡ is_idle (view self.now) }
     {
         self.ended || self.flags.is_hard()
     }

@@ -10,9 +10,9 @@ pub returns : goal.returns
 returns g c =
     let k = c.args.cursor.now in
     let m = c.args.bytes.now.items in
-    let w = g.row.S-Scalar.width in
+    let w = g.S.Scalar.width in
     let n = c.size.result in
-    let bs = g.row.S-Scalar.bytes c.args.value in
+    let bs = g.S.Scalar.bytes c.args.value in
     let e : n ≡ w = c.size.ensures in
     let roomy : has_room k n ≡ true = le-leb n (k.tail - k.head) (omega arith) in
     let moved : advanced k n ≡ k.head + w = ap (λ b. cond b (k.head + n) k.head) roomy ∙ ap (λ x. k.head + x) e in

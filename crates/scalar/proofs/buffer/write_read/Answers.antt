@@ -1,4 +1,4 @@
-use Rattle.std.proofs.Common.{◌≡◌, Bool, cond, Some, None, sym, ap, ◌∙◌}
+use Rattle.std.proofs.Common.{Bool, cond, Some, None, sym, ap, ◌∙◌}
 use Rattle.scalar.specs.Place.{write}
 use Rattle.scalar.proofs.Place.{read_write}
 use Rattle.scalar.proofs.buffer.write_read.Goals as goal

@@ -12,7 +12,11 @@ invariant_of-s c =
     let k = c.args.number.0 in
     let e = shared (contents x.objects) (contents c.share.new.self) k c.share.result (one_open (view x) c.requires.opened) c.requires.packed c.share.ensures.answer c.share.ensures.state in
     let f = shares_fit n k (contents x.objects) x.inside x.lies in
-    (x.sized, (ap (λ (o : Contents). within n o.opened) e ∙ f.0, (ap (λ (o : Contents). lying n o.packed) e ∙ f.1, tt)))
+    record {
+      sized = x.sized;
+      inside = ap (λ (o : Contents). within n o.opened) e ∙ f.0;
+      lies = ap (λ (o : Contents). lying n o.packed) e ∙ f.1;
+    }
 
 pub returns : goal.returns
 returns c =

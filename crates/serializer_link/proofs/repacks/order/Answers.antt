@@ -7,13 +7,9 @@ use Rattle.serializer_link.proofs.repacks.order.Goals as goal
 pub invariant_of-s : goal.invariant_of-s
 invariant_of-s c =
     let s = c.args.s.now in
-    let n = vec_len s.memory in (
-      s.sized,
-      (
-        ap (λ (k : Contents). within n k.opened) c.add_virtual_to.ensures.state ∙ kept_inside n _ _ _ (contents s.objects) ∙ s.inside,
-        (
-          ap (λ (k : Contents). lying n k.packed) c.add_virtual_to.ensures.state ∙ kept_lies n _ _ _ (contents s.objects) ∙ s.lies,
-          tt,
-        ),
-      ),
-    )
+    let n = vec_len s.memory in
+    record {
+      sized = s.sized;
+      inside = ap (λ (k : Contents). within n k.opened) c.add_virtual_to.ensures.state ∙ kept_inside n _ _ _ (contents s.objects) ∙ s.inside;
+      lies = ap (λ (k : Contents). lying n k.packed) c.add_virtual_to.ensures.state ∙ kept_lies n _ _ _ (contents s.objects) ∙ s.lies;
+    }

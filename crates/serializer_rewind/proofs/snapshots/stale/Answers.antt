@@ -13,14 +13,14 @@ returns-then-idle c =
 pub returns-then-not-same : goal.returns-then-not-same
 returns-then-not-same c =
     let s = view c.args.s.now in
-    let q : same_slot c.args.current (open_slot s) ≡ false = ap (same_slot c.args.current) (sym c.innermost_slot.ensures.slot) ∙ sym c.same.ensures.answer ∙ c.if-not-same.true in
+    let q : same_slot c.args.current (open_slot s) ≡ false = ap (same_slot c.args.current) (sym c.innermost-slot.ensures.slot) ∙ sym c.same.ensures.answer ∙ c.if-not-same.true in
     record { answer = sym (or_right (idle s) _ (or_left (not (same_slot c.args.current (open_slot s))) (ltb (length s.memory) c.args.tail) (ap not q))) }
 
 pub returns : goal.returns
 returns c =
     let s = view c.args.s.now in
     let i : idle s ≡ false = sym c.idle.ensures.answer ∙ c.if-idle.false in
-    let q : same_slot c.args.current (open_slot s) ≡ true = ap (same_slot c.args.current) (sym c.innermost_slot.ensures.slot) ∙ sym c.same.ensures.answer ∙ c.if-not-same.false in
+    let q : same_slot c.args.current (open_slot s) ≡ true = ap (same_slot c.args.current) (sym c.innermost-slot.ensures.slot) ∙ sym c.same.ensures.answer ∙ c.if-not-same.false in
     record {
       answer = sym (ap (λ (b : Bool). b || (not (same_slot c.args.current (open_slot s)) || ltb (length s.memory) c.args.tail)) i ∙ ap (λ (b : Bool). not b || ltb (length s.memory) c.args.tail) q ∙ ap (λ (n : ℕ). ltb n c.args.tail) (sym (c.len.ensures ∙ c.args.s.now.memory.ok.0)));
     }

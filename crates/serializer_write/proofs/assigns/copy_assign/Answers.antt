@@ -8,5 +8,5 @@ pub returns : goal.returns
 returns g c =
     let fits = c.raw-raw.ensures.fits in
     let v = view c.args.s.now in
-    let e = cut_raw (g.row.S-Scalar.bytes c.args.value) _ _ _ c.raw-raw.ensures.answer (g.met.S.Scalar.sized c.args.value fits) c.size.ensures in
+    let e = cut_raw (g.S.Scalar.bytes c.args.value) _ _ _ c.raw-raw.ensures.answer (g.met.S.Scalar.sized c.args.value fits) c.size.ensures in
     record { state = c.assign.ensures.state ∙ ap (λ (bs : List ℕ). copy_assign_from_bytes c.args.at bs v) e; fits = fits }

@@ -37,7 +37,7 @@ invariant_of-self c =
     let s = c.args.self.now in
     let w = append_wired s c.args.list c.index-chain.result.now c.split.result.0 c.split.result.1 c.join.result (vec_items c.join.new.nexts)
     (record { within = omega arith; read = c.index-chain.ensures }) (omega arith) c.split.ensures.front c.split.ensures.back c.join.ensures.chain c.join.ensures.nexts in
-    (s.sized ∙ sym c.join.ensures.len, (w.once, (w.ended, (w.filled, tt))))
+    record { sized = s.sized ∙ sym c.join.ensures.len; once = w.once; ended = w.ended; filled = w.filled }
 
 pub returns : goal.returns
 unfolding lists cells

@@ -36,7 +36,7 @@ invariant_of-self c =
     let s = c.args.self.now in
     let w = all_wired s c.args.to c.args.from c.index-front.result.now c.index-back.result.now c.join.result (vec_items c.join.new.nexts)
     (record { within = omega arith; read = c.index-front.ensures }) (record { within = omega arith; read = c.index-back.ensures }) (omega arith) c.join.ensures.chain c.join.ensures.nexts in
-    (s.sized ∙ sym c.join.ensures.len, (w.once, (w.ended, (w.filled, tt))))
+    record { sized = s.sized ∙ sym c.join.ensures.len; once = w.once; ended = w.ended; filled = w.filled }
 
 pub returns : goal.returns
 unfolding lists cells

@@ -8,7 +8,7 @@ use Rattle.links.proofs.state.Links.feed.Goals as goal
 
 pub loop-link-init : goal.loop-link-init
 loop-link-init c =
-    ap (λ (l : List Link). hashed_from c.args.hasher.now.0 (links_feed l)) (ap rest c.into_iter-link-iterator.ensures.into_iter-gives ∙ c.iter-link-items.ensures.answer)
+    ap (λ (l : List Link). hashed_from c.args.hasher.now.0 (links_feed l)) (ap rest c.into_iter-link-iterator.ensures.into_iter_gives ∙ c.iter-link-items.ensures.answer)
 
 pub loop-link-preserved : goal.loop-link-preserved
 loop-link-preserved c =

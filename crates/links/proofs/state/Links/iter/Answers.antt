@@ -10,7 +10,7 @@ returns-then-list-len c = record { answer = sym (past_list c.args.self.now c.arg
 pub invariant_of-result-2 : goal.invariant_of-result-2
 invariant_of-result-2 c =
     let s = c.args.self.now in
-    ((λ i h. omega (arith, read_inside s c.args.list c.index-chain.result.now (record { within = omega arith; read = c.index-chain.ensures }) i h, s.nexts.ok.0)), tt)
+    record { inside = λ i h. omega (arith, read_inside s c.args.list c.index-chain.result.now (record { within = omega arith; read = c.index-chain.ensures }) i h, s.nexts.ok.0) }
 
 pub returns : goal.returns
 unfolding rest

@@ -23,16 +23,16 @@ pub invariant_of-result : goal.invariant_of-result
 invariant_of-result c =
     let ns = vec_items c.loop-i.nexts in
     let free : Chain = record { first = 0; last = c.saturating_sub.result; count = c.args.cell_count } in
-    let are : vec_items c.in_ok-chains.chains ≡ replicate c.args.list_count no_chain = c.in_ok-chains.ensures.items-if-clones-equal (λ y h. h) in
+    let are : vec_items c.in_ok-chains.chains ≡ replicate c.args.list_count no_chain = c.in_ok-chains.ensures.items_if_clones_equal (λ y h. h) in
     let w : Wired ns (free ∷ vec_items c.in_ok-chains.chains) =
     subst (λ (l : List Chain). Wired ns (free ∷ l)) (sym are)
     (fresh_wired ns c.args.cell_count c.args.list_count free (omega (arith, c.loop-i.nexts.ok.0, c.loop-i.invariant.0)) (λ k h. c.loop-i.invariant.2 k (omega arith)) refl c.saturating_sub.ensures refl) in
-    (omega (arith, c.in_ok-links.ensures.len, c.loop-i.invariant.0), (w.once, (w.ended, (w.filled, tt))))
+    record { sized = omega (arith, c.in_ok-links.ensures.len, c.loop-i.invariant.0); once = w.once; ended = w.ended; filled = w.filled }
 
 pub returns : goal.returns
 unfolding lists cells
 returns c =
     let ls = vec_items c.in_ok-links.links in
     let ns = vec_items c.loop-i.nexts in
-    let are : vec_items c.in_ok-chains.chains ≡ replicate c.args.list_count no_chain = c.in_ok-chains.ensures.items-if-clones-equal (λ y h. h) in
+    let are : vec_items c.in_ok-chains.chains ≡ replicate c.args.list_count no_chain = c.in_ok-chains.ensures.items_if_clones_equal (λ y h. h) in
     record { answer = (ap (meaning ls ns) are ∙ fresh_lists ls ns c.args.list_count, omega (arith, c.loop-i.invariant.0)) }

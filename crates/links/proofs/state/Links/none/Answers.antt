@@ -12,7 +12,7 @@ invariant_of-result c =
     let w : Wired ns (no_chain ∷ vec_items c.new-3.result) =
     subst (λ (l : List Chain). Wired ns (no_chain ∷ l)) (sym c.new-3.ensures.items)
     (fresh_wired ns 0 0 no_chain (ap length c.new-2.ensures.items) (λ k h. absurd (omega arith)) refl refl refl) in
-    (c.new.ensures.len ∙ sym c.new-2.ensures.len, (w.once, (w.ended, (w.filled, tt))))
+    record { sized = c.new.ensures.len ∙ sym c.new-2.ensures.len; once = w.once; ended = w.ended; filled = w.filled }
 
 pub returns : goal.returns
 unfolding lists cells

@@ -30,7 +30,7 @@ loop-x-init c =
     level_start _ _ _ _
     (list_length s c.args.a c.index.result.now (record { within = omega arith; read = c.index.ensures }) ∙ c.if-index.false
     ∙ sym (list_length s c.args.b c.index-2.result.now (record { within = omega arith; read = c.index-2.ensures })))
-    (ap rest c.into_iter-x-iterator.ensures.into_iter-gives ∙ c.iter-x-items.ensures.answer) c.iter-others.ensures.answer
+    (ap rest c.into_iter-x-iterator.ensures.into_iter_gives ∙ c.iter-x-items.ensures.answer) c.iter-others.ensures.answer
 
 pub returns-in_default : goal.returns-in_default
 returns-in_default c =

@@ -18,7 +18,7 @@ invariant_of-self c =
     added c.append.result (lists s.links) (lists c.append.new.self) _ _ _ _ c.append.ensures.state c.virtual_list-list.ensures.answer c.virtual_to.ensures.answer in
     let w = relinked_sound (parts s) (sound s) x c.requires.innermost (lists c.append.new.self) (cells c.append.new.self)
     (touch_maybe x.0 (lists s.links) _ (lists c.append.new.self) c.append.result (touch (lists s.links) x.0 (2 * x.0 + 1) _ (omega arith) (omega arith)) e) in
-    (w.paired, (s.reserved, (w.counted, (w.roomy, (w.apart, (w.blank, tt))))))
+    record { paired = w.paired; reserved = s.reserved; counted = w.counted; roomy = w.roomy; apart = w.apart; blank = w.blank }
 
 pub returns : goal.returns
 unfolding contents

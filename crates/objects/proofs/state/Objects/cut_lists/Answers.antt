@@ -21,7 +21,7 @@ invariant_of-self c =
     let e : ks ≡ pruned ls x.0 c.args.reals c.args.virtuals =
     pruned_is ls x.0 c.args.reals c.args.virtuals (lists c.cut.new.self) ks _ _ c.cut.ensures.state c.cut-2.ensures.state c.real_list-first.ensures.answer c.virtual_list-second.ensures.answer in
     let w = relinked_sound (parts s) (sound s) x c.requires.innermost ks (cells c.cut-2.new.self) (subst (Touch x.0 ls) (sym e) (pruned_touch ls x.0 c.args.reals c.args.virtuals)) in
-    (w.paired, (s.reserved, (w.counted, (w.roomy, (w.apart, (w.blank, tt))))))
+    record { paired = w.paired; reserved = s.reserved; counted = w.counted; roomy = w.roomy; apart = w.apart; blank = w.blank }
 
 pub returns : goal.returns
 unfolding contents

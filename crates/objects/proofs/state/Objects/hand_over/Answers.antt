@@ -23,7 +23,7 @@ invariant_of-self c =
     merged_is (parts s) (sound s) c.args.slot c.requires.innermost c.args.number.0 c.args.twin c.requires.place c.append_all.result (lists c.append_all.new.self) _ _ c.virtual_list-to.ensures.answer c.virtual_list-from.ensures.answer c.append_all.ensures.answer c.append_all.ensures.state in
     let w : Sound (with_links (parts s) (lists c.append_all.new.self) n) =
     subst (λ (v : List (List Link)). Sound (with_links (parts s) v n)) (sym e) (merged_sound (parts s) (sound s) c.args.slot c.requires.innermost c.args.number.0 c.args.twin c.requires.place n) in
-    (w.paired, (s.reserved, (w.counted, (w.roomy, (w.apart, (w.blank, tt))))))
+    record { paired = w.paired; reserved = s.reserved; counted = w.counted; roomy = w.roomy; apart = w.apart; blank = w.blank }
 
 pub returns : goal.returns
 unfolding contents

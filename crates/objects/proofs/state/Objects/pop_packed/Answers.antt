@@ -10,7 +10,7 @@ invariant_of-self c =
     let s = c.args.self.now in
     let e = pop_is _ _ _ _ c.pop.result s.packed.ok.0 c.pop.new.self.ok.0 c.pop.ensures.items c.pop.ensures.cases in
     let w = popped_packed (parts s) (sound s) (vec_items c.pop.new.self) c.pop.result e in
-    (w.paired, ((s.reserved.0, omega (arith, s.reserved.1, c.pop.ensures.capacity), s.reserved.2), (w.counted, (w.roomy, (w.apart, (w.blank, tt))))))
+    record { paired = w.paired; reserved = (s.reserved.0, omega (arith, s.reserved.1, c.pop.ensures.capacity), s.reserved.2); counted = w.counted; roomy = w.roomy; apart = w.apart; blank = w.blank }
 
 pub returns : goal.returns
 unfolding contents object_at

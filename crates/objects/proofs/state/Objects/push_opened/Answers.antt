@@ -11,7 +11,7 @@ pub invariant_of-self : goal.invariant_of-self
 invariant_of-self c =
     let s = c.args.self.now in
     let w = pushed_opened (parts s) (sound s) c.args.slot c.requires.loose c.args.extent (vec_items c.push_reserved.new.self) c.push_reserved.ensures.items in
-    (w.paired, ((omega (arith, s.reserved.0, c.push_reserved.ensures.capacity), s.reserved.1, s.reserved.2), (w.counted, (w.roomy, (w.apart, (w.blank, tt))))))
+    record { paired = w.paired; reserved = (omega (arith, s.reserved.0, c.push_reserved.ensures.capacity), s.reserved.1, s.reserved.2); counted = w.counted; roomy = w.roomy; apart = w.apart; blank = w.blank }
 
 pub returns : goal.returns
 unfolding contents

@@ -10,7 +10,7 @@ pub invariant_of-self : goal.invariant_of-self
 invariant_of-self c =
     let s = c.args.self.now in
     let w = pushed_packed (parts s) (sound s) c.args.slot c.requires.loose c.args.extent (vec_items c.push_reserved.new.self) c.push_reserved.ensures.items in
-    (w.paired, ((s.reserved.0, omega (arith, s.reserved.1, c.push_reserved.ensures.capacity), s.reserved.2), (w.counted, (w.roomy, (w.apart, (w.blank, tt))))))
+    record { paired = w.paired; reserved = (s.reserved.0, omega (arith, s.reserved.1, c.push_reserved.ensures.capacity), s.reserved.2); counted = w.counted; roomy = w.roomy; apart = w.apart; blank = w.blank }
 
 pub returns : goal.returns
 unfolding contents object_at

@@ -7,10 +7,15 @@ use Rattle.objects.proofs.state.Objects.reset.Goals as goal
 pub invariant_of-self : goal.invariant_of-self
 invariant_of-self c =
     let s = c.args.self.now in
-    let w = unused_sound _ (idle_unused (vec_items s.extents) _ _ _ _ (vec_len s.extents) (cells c.clear_all.new.self) (length (lists s.links)) c.clear_all.ensures.state s.paired (omega (arith, s.extents.ok.0)) c.clear.ensures.items c.clear-2.ensures.items c.clear-3.ensures.items) in (
-      w.paired,
-      ((omega (arith, s.reserved.0, c.clear.ensures.capacity), omega (arith, s.reserved.1, c.clear-2.ensures.capacity), omega (arith, s.reserved.2, c.clear-3.ensures.capacity)), (w.counted, (w.roomy, (w.apart, (w.blank, tt))))),
-    )
+    let w = unused_sound _ (idle_unused (vec_items s.extents) _ _ _ _ (vec_len s.extents) (cells c.clear_all.new.self) (length (lists s.links)) c.clear_all.ensures.state s.paired (omega (arith, s.extents.ok.0)) c.clear.ensures.items c.clear-2.ensures.items c.clear-3.ensures.items) in
+    record {
+      paired = w.paired;
+      reserved = (omega (arith, s.reserved.0, c.clear.ensures.capacity), omega (arith, s.reserved.1, c.clear-2.ensures.capacity), omega (arith, s.reserved.2, c.clear-3.ensures.capacity));
+      counted = w.counted;
+      roomy = w.roomy;
+      apart = w.apart;
+      blank = w.blank;
+    }
 
 pub returns : goal.returns
 unfolding contents

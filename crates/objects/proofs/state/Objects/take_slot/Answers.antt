@@ -11,21 +11,21 @@ invariant_of-self c =
     let s = c.args.self.now in
     let i = c.in-Some.ensures in
     let w = popped_released (parts s) (sound s) (vec_items c.pop.new.self) (Some c.in-Some.slot) i.items in
-    (w.paired, ((s.reserved.0, s.reserved.1, omega (arith, s.reserved.2, i.capacity)), (w.counted, (w.roomy, (w.apart, (w.blank, tt))))))
+    record { paired = w.paired; reserved = (s.reserved.0, s.reserved.1, omega (arith, s.reserved.2, i.capacity)); counted = w.counted; roomy = w.roomy; apart = w.apart; blank = w.blank }
 
 pub invariant_of-self-then-self-len : goal.invariant_of-self-then-self-len
 invariant_of-self-then-self-len c =
     let s = c.args.self.now in
     let n = pop_is _ _ _ _ None s.released.ok.0 c.pop.new.self.ok.0 c.in_default.ensures.items c.in_default.ensures.cases in
     let w = popped_released (parts s) (sound s) (vec_items c.pop.new.self) None n in
-    (w.paired, ((s.reserved.0, s.reserved.1, omega (arith, s.reserved.2, c.in_default.ensures.capacity)), (w.counted, (w.roomy, (w.apart, (w.blank, tt))))))
+    record { paired = w.paired; reserved = (s.reserved.0, s.reserved.1, omega (arith, s.reserved.2, c.in_default.ensures.capacity)); counted = w.counted; roomy = w.roomy; apart = w.apart; blank = w.blank }
 
 pub invariant_of-self-2 : goal.invariant_of-self-2
 invariant_of-self-2 c =
     let s = c.args.self.now in
     let n = pop_is _ _ _ _ None s.released.ok.0 c.pop.new.self.ok.0 c.in_default.ensures.items c.in_default.ensures.cases in
     let w = new_sound (parts s) (vec_items c.pop.new.self) (sound s) (omega (arith, c.len.ensures)) (n.1 ∙ sym n.0) in
-    (w.paired, ((s.reserved.0, s.reserved.1, omega (arith, s.reserved.2, c.in_default.ensures.capacity)), (w.counted, (w.roomy, (w.apart, (w.blank, tt))))))
+    record { paired = w.paired; reserved = (s.reserved.0, s.reserved.1, omega (arith, s.reserved.2, c.in_default.ensures.capacity)); counted = w.counted; roomy = w.roomy; apart = w.apart; blank = w.blank }
 
 pub returns-in-Some : goal.returns-in-Some
 unfolding contents

@@ -8,7 +8,7 @@ pub invariant_of-result : goal.invariant_of-result
 invariant_of-result c =
     let a = c.args in
     let w = unused_sound _ (idle_unused (vec_items a.extents) _ _ _ _ (vec_len a.extents) (cells a.links) (vec_len a.extents * 2) c.requires.paired (omega arith) (omega (arith, a.extents.ok.0)) c.requires.empty.0 c.requires.empty.1 c.requires.empty.2) in
-    (w.paired, (c.requires.reserved, (w.counted, (w.roomy, (w.apart, (w.blank, tt))))))
+    record { paired = w.paired; reserved = c.requires.reserved; counted = w.counted; roomy = w.roomy; apart = w.apart; blank = w.blank }
 
 pub returns : goal.returns
 unfolding contents

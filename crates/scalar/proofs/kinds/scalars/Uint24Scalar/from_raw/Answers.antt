@@ -1,4 +1,4 @@
-use Rattle.std.proofs.Common.{arith, rules}
+use Rattle.std.proofs.Common.{rules}
 use Rattle.scalar.specs.Small.{same_uint24}
 use Rattle.scalar.proofs.kinds.scalars.Uint24Scalar.from_raw.Goals as goal
 

@@ -20,7 +20,7 @@ index-requires c = c.args.self.now.inside 0 (omega arith)
 pub invariant_of-self : goal.invariant_of-self
 invariant_of-self c =
     let w = c.args.self.now in
-    (step_inside w.owner.now w.cell w.left c.index.result.now (omega arith) w.inside c.index.ensures, tt)
+    record { inside = step_inside w.owner.now w.cell w.left c.index.result.now (omega arith) w.inside c.index.ensures }
 
 pub returns : goal.returns
 unfolding rest

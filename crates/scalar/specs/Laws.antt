@@ -1,17 +1,13 @@
--- What big_endian bytes are, for every width: how many, each below 256, showing the number they stand for, and the only ones that do.
+-- What the laws of the scalars rest on, for every width: the number that the bytes of a number show, and the bytes of the number that bytes show.
 use Rattle.std.specs.Prelude.{◌≡◌, ℕ, zero, suc, ◌+◌, ◌*◌, ◌/◌, ◌%◌, ◌^◌, ◌<◌, List, [], ◌∷◌, length, refl}
-use Rattle.std.proofs.Common.{sym, ap, ◌∙◌, mod-lt, mod-eq_of_lt, arith}
+use Rattle.std.proofs.Common.{sym, ap, ◌∙◌, subst, mod-lt, mod-eq_of_lt, arith}
 use Rattle.std.proofs.Math.Nat.{one-le-pow, pow-succ', mod-one, mul-add-mod_self_right}
 use Rattle.std.proofs.Math.Arith.{mod-mul, digits_lt, digits_div, digits_mod}
-use Rattle.scalar.specs.BigEndian.{number, big_endian, Bytes, Notation}
+use Rattle.scalar.specs.BigEndian.{number, big_endian, Bytes}
 
 pub length_big_endian : (w n : ℕ) → length (big_endian w n) ≡ w
 length_big_endian zero n = refl
 length_big_endian (suc k) n = ap suc (length_big_endian k n)
-
-pub bytes_big_endian : (w n : ℕ) → Bytes (big_endian w n)
-bytes_big_endian zero n = tt
-bytes_big_endian (suc k) n = (omega arith, bytes_big_endian k n)
 
 pow_pos : (k : ℕ) → 0 < 256 ^ k
 pow_pos k = one-le-pow k 256 (omega arith)
@@ -27,16 +23,6 @@ number_big_endian (suc k) n =
     ∙ ap (λ (m : ℕ). (n / 256 ^ k % 256) * 256 ^ k + m) (number_big_endian k n)
     ∙ sym (low n k)
 
-pub number_back : (w n : ℕ) → n < 256 ^ w → number (big_endian w n) ≡ n
-number_back w n l = number_big_endian w n ∙ mod-eq_of_lt l
-
-below : (bs : List ℕ) → Bytes bs → number bs < 256 ^ length bs
-below [] u = omega arith
-below (b ∷ bs) e = rw pow-succ' (digits_lt e.0 (below bs e.1))
-
-pub number_below : (w : ℕ) (bs : List ℕ) → length bs ≡ w → Bytes bs → number bs < 256 ^ w
-number_below w bs l e = rw l at (below bs e)
-
 -- only what is left below 256 ^ w counts
 pub big_endian_same : (w m n : ℕ) → m % 256 ^ w ≡ n % 256 ^ w → big_endian w m ≡ big_endian w n
 big_endian_same zero m n e = refl
@@ -48,25 +34,17 @@ big_endian_same (suc k) m n e =
     let rest = sym (digits_mod (m / 256 ^ k % 256) u) ∙ ap (λ (x : ℕ). x % 256 ^ k) p ∙ digits_mod (n / 256 ^ k % 256) v in
     ap (λ (b : ℕ). b ∷ big_endian k m) high ∙ ap (λ (bs : List ℕ). (n / 256 ^ k % 256) ∷ bs) (big_endian_same k m n rest)
 
-again : (bs : List ℕ) → Bytes bs → big_endian (length bs) (number bs) ≡ bs
-again [] u = refl
-again (b ∷ bs) e =
+-- the number that w bytes show is below 256 ^ w, and they are its bytes
+pub number_shown : (w : ℕ) (bs : List ℕ) → length bs ≡ w → Bytes bs → (number bs < 256 ^ w) × (big_endian w (number bs) ≡ bs)
+number_shown w [] l e = subst (λ (k : ℕ). (0 < 256 ^ k) × (big_endian k 0 ≡ [])) l (omega arith, refl)
+number_shown w (b ∷ bs) l e =
     let c = 256 ^ length bs in
     let n = b * c + number bs in
-    let first = ap (λ (x : ℕ). x % 256) (digits_div b (below bs e.1)) ∙ mod-eq_of_lt e.0 in
+    let rest = number_shown (length bs) bs refl e.1 in
+    let first = ap (λ (x : ℕ). x % 256) (digits_div b rest.0) ∙ mod-eq_of_lt e.0 in
+    let same = mul-add-mod_self_right b c (number bs) in
+    let less : n < 256 ^ suc (length bs) = rw pow-succ' (digits_lt e.0 rest.0) in
+    let whole =
     ap (λ (x : ℕ). x ∷ big_endian (length bs) n) first
-    ∙ ap (λ (xs : List ℕ). b ∷ xs) (big_endian_same (length bs) n (number bs) (mul-add-mod_self_right b c (number bs)) ∙ again bs e.1)
-
-pub big_endian_again : (w : ℕ) (bs : List ℕ) → length bs ≡ w → Bytes bs → big_endian w (number bs) ≡ bs
-big_endian_again w bs l e = ap (λ (k : ℕ). big_endian k (number bs)) (sym l) ∙ again bs e
-
-pub notation : Notation
-notation =
-    record {
-      long = length_big_endian;
-      bytes = bytes_big_endian;
-      shown = number_big_endian;
-      back = number_back;
-      below = number_below;
-      again = big_endian_again;
-    }
+    ∙ ap (λ (xs : List ℕ). b ∷ xs) (big_endian_same (length bs) n (number bs) same ∙ rest.1) in
+    subst (λ (k : ℕ). (n < 256 ^ k) × (big_endian k n ≡ b ∷ bs)) l (less, whole)
