@@ -22,7 +22,7 @@ use Rattle.model.proofs.Number.{numbered_is, numbered_at, numbered_below, number
 use Rattle.model.proofs.Last.{still_same, still_then, effect_persist}
 use Rattle.model.proofs.Effect.{Turns}
 use Rattle.model.proofs.Change.{call_effect}
-use Rattle.model.proofs.Moment.{all_here, Turning, turning, through_here, through_split, through_snoc, through_join, through_map, split_two, older_split, older_snoc, live_drop, live_taken}
+use Rattle.model.proofs.Moment.{throughout_here, Turning, turning, through_here, through_split, through_snoc, through_join, through_map, split_two, older_split, older_snoc, live_drop, live_taken}
 use Rattle.model.proofs.Moment.Turning.{ahead, back, away}
 use Rattle.model.proofs.Nest.{Within, Calm, Undug, calm_from, nest, snap_real}
 
@@ -94,7 +94,7 @@ module _ (b : Beginning) (n i : ℕ) (l : Link) (adding : Call) (before : List C
       let older : NoneOlder (length bs) ys = older_snoc (length bs) live.since Snap (subst (λ (x : ℕ). NoneOlder x live.since) (sym live.then) live.not_older) tt in
       let o : Calm b (length bs) q.0 bs = calm_from b (length bs) q.0 bs (older_split (length bs) zs q.0 (subst (NoneOlder (length bs)) q.2 older)) in
       let before-live : LiveRun b before = live_drop b (adding ∷ []) before (live_drop b m start run-live.1) in
-      let w : Within (at b bs) (at b before) = all_here (Undug b) before (nest b before before-live) bs q.0 q.1 t o in
+      let w : Within (at b bs) (at b before) = throughout_here (Undug b) before (nest b before before-live) bs q.0 q.1 t o in
       let d₁ : depth (at b bs) ≤ depth (at b before) = subst (λ (x : List Call). depth (at b bs) ≤ depth (at b x)) (sym q.1) (through_here P q.0 bs t) in
       let d₂ : depth (at b before) ≡ suc n = ap length opened ∙ ap suc level in
       let d₃ : n < depth (at b ds) = numbered_below (at b ds).opened n now.0 now.1 in
@@ -133,7 +133,7 @@ module _ (b : Beginning) (n i : ℕ) (l : Link) (adding : Call) (before : List C
   counts : (m : List Call) → depth (at b start) ≡ suc n → LiveRun b (m ++ start) → Through Keep m start → Through (λ ds. count (at b start) ≤ count (at b ds)) m start
   counts [] d live t = omega arith
   counts (◌∷◌ c m) d live t = (
-    (all_here (Undug b) (c ∷ (m ++ start)) (nest b (c ∷ (m ++ start)) live) start (c ∷ m) refl (deep_start d (c ∷ m) t) (calm (c ∷ m) live t)).fewer,
+    (throughout_here (Undug b) (c ∷ (m ++ start)) (nest b (c ∷ (m ++ start)) live) start (c ∷ m) refl (deep_start d (c ∷ m) t) (calm (c ∷ m) live t)).fewer,
     counts m d live.1 t.1,
   )
 

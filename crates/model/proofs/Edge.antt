@@ -27,7 +27,7 @@ use Rattle.model.proofs.Last.{relent_still}
 use Rattle.model.proofs.Effect.{Relent, Turns, Effect}
 use Rattle.model.proofs.Change.{call_effect}
 use Rattle.model.proofs.Effect.Effect.{same, opens, links, orders, lends, closes, packs, packs_entered, shares, drops, drops_back, cuts, cuts_back, enters, strikes}
-use Rattle.model.proofs.Moment.{All, all_here, all_drop, Turning, turning, live_taken}
+use Rattle.model.proofs.Moment.{Throughout, throughout_here, throughout_drop, Turning, turning, live_taken}
 use Rattle.model.proofs.Moment.Turning.{ahead, back, away}
 use Rattle.model.proofs.Nest.{Within, nest, since_live}
 
@@ -242,24 +242,24 @@ module _ (b : Beginning) where
   Fine cs = PoisedState (span b) (at b cs)
 
   -- at the moment of a live snapshot
-  then : (cs : List Call) → All Fine cs → (j : ℕ) (live : Live b j cs) → Fine live.before
-  then cs all j live = all_here Fine live.before (all_drop Fine (live.since ++ (Snap ∷ [])) live.before
-      (subst (All Fine) (live.made ∙ sym (append_assoc live.since (Snap ∷ []) live.before)) all))
+  then : (cs : List Call) → Throughout Fine cs → (j : ℕ) (live : Live b j cs) → Fine live.before
+  then cs all j live = throughout_here Fine live.before (throughout_drop Fine (live.since ++ (Snap ∷ [])) live.before
+      (subst (Throughout Fine) (live.made ∙ sym (append_assoc live.since (Snap ∷ []) live.before)) all))
 
-  next : (c : Call) (cs : List Call) → Turning c → MayRevert b (role c) cs → LiveRun b cs → All Fine cs → Fine (c ∷ cs)
+  next : (c : Call) (cs : List Call) → Turning c → MayRevert b (role c) cs → LiveRun b cs → Throughout Fine cs → Fine (c ∷ cs)
   next c cs (ahead plain) live run-live all =
-      effect_poised (span b) c (at b cs) (run_sound b cs) (run b cs).register (at b (◌∷◌ c cs)).memory (at b (◌∷◌ c cs)).head plain (all_here Fine cs all) (call_effect c (at b cs) (run b cs).register (run b cs).answers)
+      effect_poised (span b) c (at b cs) (run_sound b cs) (run b cs).register (at b (◌∷◌ c cs)).memory (at b (◌∷◌ c cs)).head plain (throughout_here Fine cs all) (call_effect c (at b cs) (run b cs).register (run b cs).answers)
   next c cs (back j) live run-live all =
       subst (λ (x : Option Snapshot). PoisedState (span b) (revert_to x (at b cs) (run b cs).register).state) (sym (live_taken b j cs live))
-      (reverted_poised (span b) (at b live.before) (at b cs) (run b cs).register (run_sound b live.before) (run_sound b cs) (since_live b cs (nest b cs run-live) j live) (sym live.again) (then cs all j live) (all_here Fine cs all))
+      (reverted_poised (span b) (at b live.before) (at b cs) (run b cs).register (run_sound b live.before) (run_sound b cs) (since_live b cs (nest b cs run-live) j live) (sym live.again) (then cs all j live) (throughout_here Fine cs all))
   next c cs (away p) live run-live all = absurd live
 
-  all_fine : (cs : List Call) → LiveRun b cs → All Fine cs
+  all_fine : (cs : List Call) → LiveRun b cs → Throughout Fine cs
   all_fine [] live = begun_poised (checked b.size b.slots b.cells b.register.capacity) b.size b.slots b.cells (span b)
   all_fine (◌∷◌ c cs) live = let ih = all_fine cs live.1 in (next c cs (turning c) live.0 live.1 ih, ih)
 
   fine : (cs : List Call) → LiveRun b cs → Fine cs
-  fine cs live = all_here Fine cs (all_fine cs live)
+  fine cs live = throughout_here Fine cs (all_fine cs live)
 
 pub edges : Edges
 edges = record {

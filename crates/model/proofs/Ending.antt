@@ -1,13 +1,14 @@
 -- What an ending that ends the serializer and leaves no flag has done, and what the bytes of its fields show.
 use Rattle.std.proofs.Common.{◌≡◌, ℕ, zero, suc, ◌+◌, ◌-◌, ◌*◌, ◌^◌, ◌<◌, ◌≤◌, Bool, true, false, cond, not, ◌||◌, eqb, ltb, List, [], ◌∷◌, ◌++◌, length, take, drop, pos, ◌-ℤ◌, Some, None, Option, sym, refl, ap, ◌∙◌, subst, arith, pow_pos, pow-add}
-use native.Mathlib.Nat.{pow-succ'}
+use Rattle.std.proofs.Math.Nat.{pow-succ'}
 use Rattle.cursor.specs.declared.flags.SerializeErrorFlags.{SerializeErrorFlags}
 use Rattle.cursor.specs.Flags.{none, other, hard, same_flags}
 use Rattle.link.specs.declared.ObjIdx.{ObjIdx}
 use Rattle.register.specs.Pairs.{Pairs}
 use Rattle.scalar.specs.BigEndian.{number, big_endian}
 use Rattle.scalar.specs.Place.{part}
-use Rattle.scalar.specs.BigEndianLemmas.{length_big_endian, number_back}
+use Rattle.scalar.specs.Laws.{length_big_endian}
+use Rattle.scalar.proofs.BigEndian.{number_back}
 use Rattle.std.proofs.lemmas.Int.{ints}
 use Rattle.std.proofs.lemmas.Bool.{ltb-false, eqb-true, eqb-false, lt-ltb, or_from, or_parts, both_ways}
 use Rattle.model.specs.State.{State, Object, with_ended}

@@ -3,7 +3,7 @@ use Rattle.std.proofs.Common.{◌≡◌, ℕ, ◌+◌, true, false, ◌||◌, eq
 use Rattle.cursor.specs.Flags.{other, offset_overflow, contains}
 use Rattle.register.specs.Pairs.{Pairs}
 use Rattle.scalar.specs.BigEndian.{big_endian}
-use Rattle.scalar.specs.BigEndianLemmas.{length_big_endian}
+use Rattle.scalar.specs.Laws.{length_big_endian}
 use Rattle.std.proofs.lemmas.Bool.{ltb-false, or_parts, both_ways, cases_Bool}
 use Rattle.model.specs.State.{State, Object, with_ended}
 use Rattle.model.specs.Declining.{flagged, nothing_open}

@@ -36,17 +36,17 @@ through_map P Q f [] before t = f before t
 through_map P Q f (◌∷◌ c since) before t = (f (c ∷ (since ++ before)) t.0, through_map P Q f since before t.1)
 
 -- at every moment of the run
-abbrev pub All : (List Call → Type 0) → List Call → Type 0
-All P [] = P []
-All P (◌∷◌ c cs) = P (◌∷◌ c cs) × All P cs
+abbrev pub Throughout : (List Call → Type 0) → List Call → Type 0
+Throughout P [] = P []
+Throughout P (◌∷◌ c cs) = P (◌∷◌ c cs) × Throughout P cs
 
-pub all_here : (P : List Call → Type 0) (cs : List Call) → All P cs → P cs
-all_here P [] f = f
-all_here P (◌∷◌ c cs) f = f.0
+pub throughout_here : (P : List Call → Type 0) (cs : List Call) → Throughout P cs → P cs
+throughout_here P [] f = f
+throughout_here P (◌∷◌ c cs) f = f.0
 
-pub all_drop : (P : List Call → Type 0) (ys cs : List Call) → All P (ys ++ cs) → All P cs
-all_drop P [] cs f = f
-all_drop P (◌∷◌ y ys) cs f = all_drop P ys cs f.1
+pub throughout_drop : (P : List Call → Type 0) (ys cs : List Call) → Throughout P (ys ++ cs) → Throughout P cs
+throughout_drop P [] cs f = f
+throughout_drop P (◌∷◌ y ys) cs f = throughout_drop P ys cs f.1
 
 -- two ways to the same run
 pub split_two : (xs bs ys cs : List Call) → xs ++ bs ≡ ys ++ cs → length bs ≤ length cs → (mid : List Call) × (cs ≡ mid ++ bs) × (xs ≡ ys ++ mid)

@@ -21,7 +21,7 @@ use Rattle.model.proofs.Slot.{cut_length}
 use Rattle.model.proofs.Effect.{Turns}
 use Rattle.model.proofs.Change.{call_effect}
 use Rattle.model.proofs.Grow.{Step, discard_floor, effect_step}
-use Rattle.model.proofs.Moment.{All, all_here, all_drop, Turning, turning, through_here, through_split, through_snoc, split_two, older_snoc, live_taken}
+use Rattle.model.proofs.Moment.{Throughout, throughout_here, throughout_drop, Turning, turning, through_here, through_split, through_snoc, split_two, older_snoc, live_taken}
 use Rattle.model.proofs.Moment.Turning.{ahead, back, away}
 
 -- ---- within
@@ -182,18 +182,18 @@ module _ (b : Beginning) where
   same cs before e = subst (λ (x : List Call). Within (at b x) (at b cs)) e (within_same (span b) (at b cs) (run_sound b cs))
 
   -- from the moment of a live snapshot on
-  pub since_live : (cs : List Call) → All Undug cs → (j : ℕ) (live : Live b j cs) → Within (at b live.before) (at b cs)
+  pub since_live : (cs : List Call) → Throughout Undug cs → (j : ℕ) (live : Live b j cs) → Within (at b live.before) (at b cs)
   since_live cs all j live =
       let bs = live.before in
       let ys = live.since ++ (Snap ∷ []) in
-      all_here Undug cs all bs ys (live.made ∙ sym (append_assoc live.since (Snap ∷ []) bs))
+      throughout_here Undug cs all bs ys (live.made ∙ sym (append_assoc live.since (Snap ∷ []) bs))
       (through_snoc (λ ds. depth (at b bs) ≤ depth (at b ds)) live.since Snap bs live.not_closed (omega arith))
       (calm_from b (length bs) ys bs (older_snoc (length bs) live.since Snap (subst (λ (x : ℕ). NoneOlder x live.since) (sym live.then) live.not_older) tt))
 
-  module _ (cs : List Call) (all : All Undug cs) (before since : List Call) (is : cs ≡ since ++ before)
+  module _ (cs : List Call) (all : Throughout Undug cs) (before since : List Call) (is : cs ≡ since ++ before)
       (t : Through (λ ds. depth (at b before) ≤ depth (at b ds)) since before) (o : Calm b (length before) since before) where
     w : Within (at b before) (at b cs)
-    w = all_here Undug cs all before since is t o
+    w = throughout_here Undug cs all before since is t o
 
     deep_now : depth (at b before) ≤ depth (at b cs)
     deep_now = subst (λ (x : List Call). depth (at b before) ≤ depth (at b x)) (sym is) (through_here (λ ds. depth (at b before) ≤ depth (at b ds)) since before t)
@@ -210,7 +210,7 @@ module _ (b : Beginning) where
         let P : List Call → Type 0 = λ ds. depth (at b before) ≤ depth (at b ds) in
         let tm : Through P q.0 before = through_split P ys q.0 before (subst (λ (x : List Call). Through P x before) q.2 t) in
         let om : Calm b (length before) q.0 before = calm_split b (length before) ys q.0 before (subst (λ (x : List Call). Calm b (length before) x before) q.2 o) in
-        let v : Within (at b before) (at b bs) = all_here Undug bs (all_drop Undug ys bs (subst (All Undug) made all)) before q.0 q.1 tm om in
+        let v : Within (at b before) (at b bs) = throughout_here Undug bs (throughout_drop Undug ys bs (subst (Throughout Undug) made all)) before q.0 q.1 tm om in
         let d₀ : depth (at b before) ≤ depth (at b bs) = subst (λ (x : List Call). depth (at b before) ≤ depth (at b x)) (sym q.1) (through_here P q.0 before tm) in
         subst (λ (x : Option Snapshot). Within (at b before) (revert_to x (at b cs) (run b cs).register).state) (sym (live_taken b j cs live))
         (within_revert (span b) (at b before) (at b bs) (at b cs) (run b cs).register (run_sound b cs) w v (since_live cs all j live) d₀ (sym live.again))
@@ -224,7 +224,7 @@ module _ (b : Beginning) where
     next c live (inl l) deep = next_by c (turning c) live l deep
     next c live (inr e) _ = subst (λ (x : State). Within (at b before) x) (sym e) w
 
-  pub nest : (cs : List Call) → LiveRun b cs → All Undug cs
+  pub nest : (cs : List Call) → LiveRun b cs → Throughout Undug cs
   nest [] live = λ before since e t o. first before since e
     where
       first : (before since : List Call) → [] ≡ since ++ before → Within (at b before) (at b [])
@@ -232,7 +232,7 @@ module _ (b : Beginning) where
       first before (◌∷◌ c since) e = absurd (let z = ap length e in omega arith)
   nest (◌∷◌ c cs) live = (step (nest cs live.1), nest cs live.1)
     where
-      step : All Undug cs → Undug (c ∷ cs)
+      step : Throughout Undug cs → Undug (c ∷ cs)
       step all before [] e t o = same (c ∷ cs) before e
       step all before (◌∷◌ x since) e t o =
           let y : c ≡ x = cc in let f : cs ≡ since ++ before = cc in

@@ -8,7 +8,7 @@ use Rattle.link.specs.declared.OffsetWhence.TheVariants.{Head, Tail, Absolute}
 use Rattle.link.specs.Width.{bytes_of_width}
 use Rattle.scalar.specs.BigEndian.{big_endian}
 use Rattle.scalar.specs.Place.{part, write}
-use Rattle.scalar.specs.BigEndianLemmas.{length_big_endian}
+use Rattle.scalar.specs.Laws.{length_big_endian}
 use Rattle.std.proofs.lemmas.List.{length-take-le, drop_at, get_or-drop}
 use Rattle.std.proofs.lemmas.Int.{ints}
 use Rattle.std.proofs.lemmas.Bool.{ltb-false, le-ltb, ne_eqb, cases_lt}

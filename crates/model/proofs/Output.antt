@@ -3,7 +3,7 @@ use Rattle.std.proofs.Common.{◌≡◌, ℕ, ◌+◌, ◌-◌, ◌≤◌, true,
 use Rattle.cursor.specs.Flags.{none, other, offset_overflow}
 use Rattle.scalar.specs.BigEndian.{big_endian}
 use Rattle.scalar.specs.Place.{part, write}
-use Rattle.scalar.specs.BigEndianLemmas.{length_big_endian}
+use Rattle.scalar.specs.Laws.{length_big_endian}
 use Rattle.std.proofs.lemmas.List.{drop_all}
 use Rattle.std.proofs.lemmas.Bool.{ltb-false, eqb-true, eqb-false}
 use Rattle.model.specs.State.{State, Object}

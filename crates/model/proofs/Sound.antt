@@ -1,6 +1,6 @@
 -- Packed objects lie one against the other up to the end of memory, and what a call but the ending writes lies below them.
 use Rattle.std.proofs.Common.{◌≡◌, ℕ, ◌+◌, ◌-◌, ◌≤◌, Bool, true, false, eqb, ltb, ◌⊎◌, List, [], ◌∷◌, length, drop, replicate, Err, Option, Result, unwrap_or, sym, refl, ◌∙◌, subst, inl, inr, arith}
-use lib.ListN.{length-replicate}
+use Rattle.std.proofs.lemmas.List.{length-replicate}
 use Rattle.cursor.specs.declared.flags.SerializeErrorFlags.{SerializeErrorFlags}
 use Rattle.cursor.specs.Flags.{hard}
 use Rattle.link.specs.declared.Link.{Link}

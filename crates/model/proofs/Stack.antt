@@ -1,6 +1,6 @@
 -- The law's first part: where packed objects lie, after every run.
 use Rattle.std.proofs.Common.{◌≡◌, ℕ, ◌≤◌, false, eqb, ◌≢◌, List, [], ◌∷◌, length, drop, replicate, Some, None, Option, sym, refl, ap, ◌∙◌, inr, le_of_eq, arith}
-use lib.ListN.{length-replicate}
+use Rattle.std.proofs.lemmas.List.{length-replicate}
 use Rattle.register.specs.Pairs.{Pairs}
 use Rattle.model.specs.declared.limit.Limit.{Limit}
 use Rattle.model.specs.declared.snapshot.Snapshot.{Snapshot}

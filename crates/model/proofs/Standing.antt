@@ -1,6 +1,6 @@
 -- Hard flags never go away, and an ended serializer does not change.
 use Rattle.std.proofs.Common.{◌≡◌, Bool, true, false, cond, not, ◌||◌, eqb, ltb, List, [], ◌∷◌, ◌++◌, length, Some, None, Err, Option, Result, unwrap_or, sym, refl, ap, ◌∙◌}
-use lib.Bits.{or_zero_r}
+use Rattle.std.specs.Int.Bits.{or_zero_r}
 use Rattle.cursor.specs.declared.flags.SerializeErrorFlags.{SerializeErrorFlags}
 use Rattle.cursor.specs.Flags.{flags, none, other, offset_overflow, joined, same_flags, contains, hard}
 use Rattle.link.specs.declared.Link.{Link}
