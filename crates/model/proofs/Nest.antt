@@ -112,7 +112,7 @@ module _ (n : ℕ) (s₀ s s' : State) (d : SoundState n s) (w : Within s₀ s) 
 pub cut_level : (a b : ℕ) (os : List Object) (j : ℕ) (o' : Object) → numbered (cut_first a b os) j ≡ Some o' →
     (o : Object) × (numbered os j ≡ Some o) × (o'.head ≡ o.head) × (o'.tail ≡ o.tail) × (((suc j ≡ length os) × (o'.real ≡ take a o.real)) ⊎ (o'.real ≡ o.real))
 cut_level a b [] j o' e = absurd (none_some o' e)
-cut_level a b (◌∷◌ o os) j o' e = elim (cases_Bool (eqb (length os) j)) [
+cut_level a b (o ∷ os) j o' e = elim (cases_Bool (eqb (length os) j)) [
   | inl u ↦ let g = eqb-true (length os) j u in
       let v = numbered_first _ o' os j g e in
       (o, numbered_at o os j g, sym (ap (λ (x : Object). x.head) v), sym (ap (λ (x : Object). x.tail) v), inl (ap suc (sym g), sym (ap (λ (x : Object). x.real) v)))
@@ -121,7 +121,7 @@ cut_level a b (◌∷◌ o os) j o' e = elim (cases_Bool (eqb (length os) j)) [
 
 pub snap_real : (os : List Object) (j : ℕ) (o : Object) → suc j ≡ length os → numbered os j ≡ Some o → real_count os ≡ length o.real
 snap_real [] j o l e = absurd (none_some o e)
-snap_real (◌∷◌ q os) j o l e = let g : length os ≡ j = omega arith in ap (λ (x : Object). length x.real) (numbered_first q o os j g e)
+snap_real (q ∷ os) j o l e = let g : length os ≡ j = omega arith in ap (λ (x : Object). length x.real) (numbered_first q o os j g e)
 
 module _ (n : ℕ) (s₀ t s : State) (r : Pairs) (d : SoundState n s) (w : Within s₀ s) (v : Within s₀ t) (u : Within t s)
     (deep₀ : depth s₀ ≤ depth t) (level : depth t ≡ depth s) where
@@ -164,15 +164,15 @@ module _ (n : ℕ) (s₀ t s : State) (r : Pairs) (d : SoundState n s) (w : With
 -- each of the calls reverts no snapshot older than the n-th call, or does nothing
 abbrev pub Calm : Beginning → ℕ → List Call → List Call → Type 0
 Calm b n [] before = Unit {0}
-Calm b n (◌∷◌ c since) before = (NotOlder n (role c) ⊎ (at b (◌∷◌ c (since ++ before)) ≡ at b (since ++ before))) × Calm b n since before
+Calm b n (c ∷ since) before = (NotOlder n (role c) ⊎ (at b (c ∷ (since ++ before)) ≡ at b (since ++ before))) × Calm b n since before
 
 calm_split : (b : Beginning) (n : ℕ) (xs ys before : List Call) → Calm b n (xs ++ ys) before → Calm b n ys before
 calm_split b n [] ys before t = t
-calm_split b n (◌∷◌ c xs) ys before t = calm_split b n xs ys before t.1
+calm_split b n (c ∷ xs) ys before t = calm_split b n xs ys before t.1
 
 pub calm_from : (b : Beginning) (n : ℕ) (xs before : List Call) → NoneOlder n xs → Calm b n xs before
 calm_from b n [] before t = tt
-calm_from b n (◌∷◌ c xs) before t = (inl t.0, calm_from b n xs before t.1)
+calm_from b n (c ∷ xs) before t = (inl t.0, calm_from b n xs before t.1)
 
 module _ (b : Beginning) where
   abbrev pub Undug : List Call → Type 0
@@ -229,11 +229,11 @@ module _ (b : Beginning) where
     where
       first : (before since : List Call) → [] ≡ since ++ before → Within (at b before) (at b [])
       first before [] e = same [] before e
-      first before (◌∷◌ c since) e = absurd (let z = ap length e in omega arith)
-  nest (◌∷◌ c cs) live = (step (nest cs live.1), nest cs live.1)
+      first before (c ∷ since) e = absurd (let z = ap length e in omega arith)
+  nest (c ∷ cs) live = (step (nest cs live.1), nest cs live.1)
     where
       step : Throughout Undug cs → Undug (c ∷ cs)
       step all before [] e t o = same (c ∷ cs) before e
-      step all before (◌∷◌ x since) e t o =
+      step all before (x ∷ since) e t o =
           let y : c ≡ x = cc in let f : cs ≡ since ++ before = cc in
           next cs all before since f t.1 o.1 c live.0 (subst₂ (λ (z : Call) (zs : List Call). NotOlder (length before) (role z) ⊎ (at b (z ∷ zs) ≡ at b zs)) (sym y) (sym f) o.0) (subst (λ (z : List Call). depth (at b before) ≤ depth (at b z)) (sym e) t.0)
