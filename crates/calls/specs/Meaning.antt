@@ -1,5 +1,5 @@
 -- The call of the model that a call stands for: a scalar goes by its bytes, and a count by its bytes if it fits.
-use Rattle.std.specs.Prelude.{ℕ, ◌-◌, ◌^◌, cond, List, Some, None, Option, nat_le}
+use Rattle.std.specs.Prelude.{ℕ, cond, List, Some, None, Option, nat_le}
 use Rattle.std.specs.Int.{cast_unsigned, w16}
 use Rattle.scalar.specs.BigEndian.{big_endian}
 use Rattle.model.specs.Run as model

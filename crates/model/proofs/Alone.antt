@@ -43,13 +43,13 @@ owns_less m r o os own h k e =
 
 discard_owns : (m : List ℕ) (t : ℕ) (ps : List Object) (p : Pool) (r : Pairs) → Owns m r ps → Owns m (discard m t ps p r).register (discard m t ps p r).left
 discard_owns m t [] p r own = own
-discard_owns m t (◌∷◌ o os) p r own = by_test (ltb o.head t) _ _ (λ (x : Discarded). Owns m x.register x.left)
+discard_owns m t (o ∷ os) p r own = by_test (ltb o.head t) _ _ (λ (x : Discarded). Owns m x.register x.left)
     (λ e. discard_owns m t os (slot_back p o.slot (links_of o)) (struck r (object_hash m o) (length os)) (owns_less m r o os own)) (λ e. own)
 
 -- what is held after was held before
 discard_held : (m : List ℕ) (t : ℕ) (ps : List Object) (p : Pool) (r : Pairs) (h k : ℕ) → (discard m t ps p r).register.has h k ≡ true → r.has h k ≡ true
 discard_held m t [] p r h k = λ e. e
-discard_held m t (◌∷◌ o os) p r h k = by_test (ltb o.head t) _ _ (λ (x : Discarded). x.register.has h k ≡ true → r.has h k ≡ true)
+discard_held m t (o ∷ os) p r h k = by_test (ltb o.head t) _ _ (λ (x : Discarded). x.register.has h k ≡ true → r.has h k ≡ true)
     (λ e u. (struck_held r (object_hash m o) (length os) h k (discard_held m t os (slot_back p o.slot (links_of o)) (struck r (object_hash m o) (length os)) h k u)).0) (λ e u. u)
 
 -- ---- over a call
@@ -106,19 +106,19 @@ abbrev Alone : List ℕ → Pairs → List Object → Type 0
 Alone m r ps = (j k : ℕ) (p q : Object) → numbered ps j ≡ Some p → numbered ps k ≡ Some q → r.has (object_hash m p) j ≡ true → r.has (object_hash m q) k ≡ true →
     bytes_in m p ≡ bytes_in m q → p.real ≡ q.real → j ≡ k
 
-module _ (b : Beginning) (c : Call) (cs : List Call) (going : (at b (◌∷◌ c cs)).ended ≡ false) (none : entry (role c) ≡ 0)
+module _ (b : Beginning) (c : Call) (cs : List Call) (going : (at b (c ∷ cs)).ended ≡ false) (none : entry (role c) ≡ 0)
     (own : Owns (at b cs).memory (run b cs).register (at b cs).packed) (alone : Alone (at b cs).memory (run b cs).register (at b cs).packed) where
   abbrev s : State
   s = at b cs
 
   abbrev s' : State
-  s' = at b (◌∷◌ c cs)
+  s' = at b (c ∷ cs)
 
   abbrev r : Pairs
   r = (run b cs).register
 
   abbrev r' : Pairs
-  r' = (run b (◌∷◌ c cs)).register
+  r' = (run b (c ∷ cs)).register
 
   unwritten : Kept s s'
   unwritten = let called = run_called b c cs in called.kept (going ∙ sym (called.stays going))
@@ -206,6 +206,6 @@ pub record Lone (b : Beginning) (cs : List Call) : Type 0 where
 
 pub run_lone : (b : Beginning) → Counted b.register → b.register.count ≡ 0 → (cs : List Call) → entries cs ≡ 0 → (at b cs).ended ≡ false → Lone b cs
 run_lone b ok z [] n e = record { owns = λ h k u. absurd (first_empty b ok z h k u); alone = λ j k p q u v x. absurd (first_empty b ok z _ j x) }
-run_lone b ok z (◌∷◌ c cs) n e =
+run_lone b ok z (c ∷ cs) n e =
     let ih = run_lone b ok z cs (omega arith) ((run_called b c cs).stays e) in let f : entry (role c) ≡ 0 = omega arith in
     record { owns = owns_next b c cs e f ih.owns ih.alone; alone = alone_next b c cs e f ih.owns ih.alone }

@@ -38,10 +38,10 @@ module _ (c : Call) (s : State) (r : Pairs) where
       (NoneHold (tests s) → Effects c s r (say (go s).1) (go s).0 r) → Effects c s r (say (guarded tests e go s).1) (guarded tests e go s).0 r
   guards {A} say tests e go q = guarded_by (λ (x : State × A). Effects c s r (say x.1) x.0 r) tests e go s unmoved (λ f. unmoved) (λ h no. q no)
 
-  virtual_effect : (a : Answer) (k : ObjIdx) (xs : List Object) → s.opened ≡ xs → (elim xs [ [] ↦ true | ◌∷◌ o os ↦ false ]) ≡ false → (n : ℕ) →
+  virtual_effect : (a : Answer) (k : ObjIdx) (xs : List Object) → s.opened ≡ xs → (elim xs [ [] ↦ true | o ∷ os ↦ false ]) ≡ false → (n : ℕ) →
       Effect c s r s.memory s.head a (extend_virtual k xs) s.packed (with_linked s.pool n) r
   virtual_effect a k [] e h n = absurd (both_ways true h refl)
-  virtual_effect a k (◌∷◌ o os) e h n = orders o os (virtual_to k) n e refl
+  virtual_effect a k (o ∷ os) e h n = orders o os (virtual_to k) n e refl
 
   -- ---- ordering the children
 
@@ -51,7 +51,7 @@ module _ (c : Call) (s : State) (r : Pairs) where
 
   repacking_effect : (k : ObjIdx) (ls : List Link) (ps : List Object) (n : ℕ) → Relent s.packed ps → Effects c s r (Done (repacking k ls (ordered ps n)).1) (repacking k ls (ordered ps n)).0 r
   repacking_effect k [] ps n t = lends ps n refl t
-  repacking_effect k (◌∷◌ l ls) ps n t = by_test (eqb l.objidx.0 k.0) _ _ (λ (x : State × Result (Unit {0}) SerializeErrorFlags). Effects c s r (Done x.1) x.0 r)
+  repacking_effect k (l ∷ ls) ps n t = by_test (eqb l.objidx.0 k.0) _ _ (λ (x : State × Result (Unit {0}) SerializeErrorFlags). Effects c s r (Done x.1) x.0 r)
       (λ e. repacking_effect k ls ps n t)
       (λ e. refuse_by (λ (x : State × Result (Unit {0}) SerializeErrorFlags). Effects c s r (Done x.1) x.0 r) (child_tests l (ordered ps n)) Err (ordered ps n) (λ x. repacking k ls (ordering k l x))
       (λ f. lends ps n refl t)
@@ -88,21 +88,21 @@ module _ (c : Call) (s : State) (r : Pairs) where
     where
       first : (os : List Object) → s.opened ≡ os → Effect c s r m (close_first false os s r).state.head a (close_first false os s r).state.opened (close_first false os s r).state.packed (close_first false os s r).state.pool (close_first false os s r).register
       first [] e = unmoved
-      first (◌∷◌ o os) e = plain_effect a o os e m
+      first (o ∷ os) e = plain_effect a o os e m
 
   pop_effect : (a : Answer) (share : Bool) → Effects c s r a (pop_pack share s r).state (pop_pack share s r).register
   pop_effect a share = by_test (idle s) _ _ (λ (x : Out (Option ObjIdx)). Effects c s r a x.state x.register) (λ e. unmoved) (λ e. first s.opened refl)
     where
       first : (os : List Object) → s.opened ≡ os → Effects c s r a (close_first share os s r).state (close_first share os s r).register
       first [] e = unmoved
-      first (◌∷◌ o os) e = close_effect a o os e share
+      first (o ∷ os) e = close_effect a o os e share
 
   discards_effect : (a : Answer) → Effects c s r a (pop_discard s r).state (pop_discard s r).register
   discards_effect a = by_test (idle s) _ _ (λ (x : Out (Unit {0})). Effects c s r a x.state x.register) (λ e. unmoved) (λ e. first s.opened refl)
     where
       first : (os : List Object) → s.opened ≡ os → Effects c s r a (discard_first os s r).state (discard_first os s r).register
       first [] e = unmoved
-      first (◌∷◌ o os) e = discard_effect a o os e
+      first (o ∷ os) e = discard_effect a o os e
 
   -- ---- reverting
 
@@ -140,7 +140,7 @@ put_objects f s = by_test (eqb f.width 0) _ _ (SameObjects s) (λ e. same_object
 
 puts_objects : (fs : List Field) (s : State) → SameObjects s (put_fields fs s)
 puts_objects [] s = same_objects s
-puts_objects (◌∷◌ f fs) s =
+puts_objects (f ∷ fs) s =
     let a = puts_objects fs (put_field f s) in let b = put_objects f s in
     record { opened = a.opened ∙ b.opened; packed = a.packed ∙ b.packed; pool = a.pool ∙ b.pool; head = a.head ∙ b.head }
 
@@ -158,7 +158,7 @@ end_effect s r a = by_test (s.ended || nothing_open s) _ _ (λ (x : Out (Unit {0
   where
     over : (ps : List Object) → Effects End s r a (end_over ps s r).state (end_over ps s r).register
     over [] = unmoved End s r
-    over (◌∷◌ p ps) =
+    over (p ∷ ps) =
         let w = with_ended (pop_pack false s r).state in let q = resolve_objects w in let m = (resolve w).memory in
         subst (λ (x : ℕ). Effect End s r m x a (resolve w).opened (resolve w).packed (resolve w).pool (pop_pack false s r).register) (sym q.head)
         (subst (λ (x : List Object). Effect End s r m w.head a x (resolve w).packed (resolve w).pool (pop_pack false s r).register) (sym q.opened)
@@ -176,11 +176,11 @@ wide : (n : ℕ) → not (is_some (width_of_length n)) ≡ false → bytes_of_wi
 wide n = wide_step n 0 Zero refl _ (wide_step n 2 Two refl _ (wide_step n 3 Three refl _ (wide_step n 4 Four refl None (λ h. absurd (both_ways true h refl)))))
 
 module _ (from to : ℕ) (k : ObjIdx) (w : OffsetWhence) (b : ℕ) (g : Bool) (s : State) (r : Pairs) where
-  add_effect : (xs : List Object) → s.opened ≡ xs → (elim xs [ [] ↦ true | ◌∷◌ o os ↦ false ]) ≡ false → not (is_some (width_of_length (to - from))) ≡ false →
-      ltb from (elim xs [ [] ↦ 0 | ◌∷◌ o os ↦ o.head ]) ≡ false → (n : ℕ) →
-      Effect (AddLink from to k w b g) s r s.memory s.head (Done (Ok tt)) (extend (link_at (elim xs [ [] ↦ 0 | ◌∷◌ o os ↦ o.head ]) from to k w b g) xs) s.packed (with_linked s.pool n) r
+  add_effect : (xs : List Object) → s.opened ≡ xs → (elim xs [ [] ↦ true | o ∷ os ↦ false ]) ≡ false → not (is_some (width_of_length (to - from))) ≡ false →
+      ltb from (elim xs [ [] ↦ 0 | o ∷ os ↦ o.head ]) ≡ false → (n : ℕ) →
+      Effect (AddLink from to k w b g) s r s.memory s.head (Done (Ok tt)) (extend (link_at (elim xs [ [] ↦ 0 | o ∷ os ↦ o.head ]) from to k w b g) xs) s.packed (with_linked s.pool n) r
   add_effect [] e h v l n = absurd (both_ways true h refl)
-  add_effect (◌∷◌ o os) e h v l n = links o os _ n e refl
+  add_effect (o ∷ os) e h v l n = links o os _ n e refl
       (record { range_from = from; range_to = to; is = refl; accepted = refl; starts = omega (arith, ltb-false from o.head l); long = sym (wide (to - from) v) })
 
 -- ---- every call

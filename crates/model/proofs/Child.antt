@@ -22,7 +22,7 @@ use Rattle.model.proofs.Number.{numbered_is, numbered_at, numbered_below, number
 use Rattle.model.proofs.Last.{still_same, still_then, effect_persist}
 use Rattle.model.proofs.Effect.{Turns}
 use Rattle.model.proofs.Change.{call_effect}
-use Rattle.model.proofs.Moment.{all_here, Turning, turning, through_here, through_split, through_snoc, through_join, through_map, split_two, older_split, older_snoc, live_drop, live_taken}
+use Rattle.model.proofs.Moment.{throughout_here, Turning, turning, through_here, through_split, through_snoc, through_join, through_map, split_two, older_split, older_snoc, live_drop, live_taken}
 use Rattle.model.proofs.Moment.Turning.{ahead, back, away}
 use Rattle.model.proofs.Nest.{Within, Calm, Undug, calm_from, nest, snap_real}
 
@@ -31,7 +31,7 @@ use Rattle.model.proofs.Nest.{Within, Calm, Undug, calm_from, nest, snap_real}
 module _ (b : Beginning) where
   still_through : (n : ℕ) (since start : List Call) (c : Object) → Through (λ ds. n < count (at b ds)) since start → numbered (at b start).packed n ≡ Some c → Through (λ ds. Still (at b ds).packed n c) since start
   still_through n [] start c t e = still_same (at b start).packed n c e
-  still_through n (◌∷◌ x since) start c t e =
+  still_through n (x ∷ since) start c t e =
       let ih = still_through n since start c t.1 e in
       let ds = since ++ start in
       let q = through_here (λ ds. Still (at b ds).packed n c) since start ih in
@@ -39,15 +39,15 @@ module _ (b : Beginning) where
       (still_then (at b (x ∷ ds)).packed n c q.object w q.slot q.head q.tail q.real, ih)
 
 -- adding a link packs and discards nothing
-adding_packs : (l : Link) (from to : ℕ) (b : Beginning) (cs : List Call) → (at b (◌∷◌ (adds l from to) cs)).packed ≡ (at b cs).packed
+adding_packs : (l : Link) (from to : ℕ) (b : Beginning) (cs : List Call) → (at b (adds l from to ∷ cs)).packed ≡ (at b cs).packed
 adding_packs l from to b cs =
     guarded_keeps (λ x. x.packed ≡ (at b cs).packed) (λ x f p. p) (link_tests from to) Err (linking from to l.objidx l.whence l.bias l.is_signed) (at b cs) refl (λ h no. refl)
 
 extend_depth : (l : Link) (os : List Object) → length (extend l os) ≡ length os
 extend_depth l [] = refl
-extend_depth l (◌∷◌ o os) = refl
+extend_depth l (o ∷ os) = refl
 
-adding_depth : (l : Link) (from to : ℕ) (b : Beginning) (cs : List Call) → depth (at b (◌∷◌ (adds l from to) cs)) ≡ depth (at b cs)
+adding_depth : (l : Link) (from to : ℕ) (b : Beginning) (cs : List Call) → depth (at b (adds l from to ∷ cs)) ≡ depth (at b cs)
 adding_depth l from to b cs =
     guarded_keeps (λ x. length x.opened ≡ depth (at b cs)) (λ x f p. p) (link_tests from to) Err (linking from to l.objidx l.whence l.bias l.is_signed) (at b cs) refl (λ h no. extend_depth _ (at b cs).opened)
 
@@ -55,7 +55,7 @@ adding_depth l from to b cs =
 
 cut_short : (n i : ℕ) (l : Link) (os : List Object) (a v : ℕ) → length os ≡ suc n → a ≤ i → HasLink (cut_first a v os) n i l → ⊥
 cut_short n i l [] a v z u k = omega arith
-cut_short n i l (◌∷◌ o os) a v z u k =
+cut_short n i l (o ∷ os) a v z u k =
     let e = numbered_first _ k.0 os n (omega arith) k.1 in
     let h : nth (take a o.real) i ≡ Some l = subst (λ (x : Object). nth x.real i ≡ Some l) (sym e) k.2 in
     let x = nth_below (take a o.real) i l h in let y = length-take a o.real in omega arith
@@ -94,7 +94,7 @@ module _ (b : Beginning) (n i : ℕ) (l : Link) (adding : Call) (before : List C
       let older : NoneOlder (length bs) ys = older_snoc (length bs) live.since Snap (subst (λ (x : ℕ). NoneOlder x live.since) (sym live.then) live.not_older) tt in
       let o : Calm b (length bs) q.0 bs = calm_from b (length bs) q.0 bs (older_split (length bs) zs q.0 (subst (NoneOlder (length bs)) q.2 older)) in
       let before-live : LiveRun b before = live_drop b (adding ∷ []) before (live_drop b m start run-live.1) in
-      let w : Within (at b bs) (at b before) = all_here (Undug b) before (nest b before before-live) bs q.0 q.1 t o in
+      let w : Within (at b bs) (at b before) = throughout_here (Undug b) before (nest b before before-live) bs q.0 q.1 t o in
       let d₁ : depth (at b bs) ≤ depth (at b before) = subst (λ (x : List Call). depth (at b bs) ≤ depth (at b x)) (sym q.1) (through_here P q.0 bs t) in
       let d₂ : depth (at b before) ≡ suc n = ap length opened ∙ ap suc level in
       let d₃ : n < depth (at b ds) = numbered_below (at b ds).opened n now.0 now.1 in
@@ -109,7 +109,7 @@ module _ (b : Beginning) (n i : ℕ) (l : Link) (adding : Call) (before : List C
 
   calm : (m : List Call) → LiveRun b (m ++ start) → Through Keep m start → Calm b (length start) m start
   calm [] live t = tt
-  calm (◌∷◌ c m) live t = (one c (turning c) live t.0, calm m live.1 t.1)
+  calm (c ∷ m) live t = (one c (turning c) live t.0, calm m live.1 t.1)
     where
       unturned : (x : Role) → (Turns x → ⊥) → NotOlder (length start) x
       unturned (Reverts k) p = absurd (p tt)
@@ -127,13 +127,13 @@ module _ (b : Beginning) (n i : ℕ) (l : Link) (adding : Call) (before : List C
 
   deep_start : depth (at b start) ≡ suc n → (m : List Call) → Through Keep m start → Through (λ ds. depth (at b start) ≤ depth (at b ds)) m start
   deep_start d [] t = omega arith
-  deep_start d (◌∷◌ c m) t = ((let z = numbered_below (at b (c ∷ (m ++ start))).opened n t.0.0 t.0.1 in omega arith), deep_start d m t.1)
+  deep_start d (c ∷ m) t = ((let z = numbered_below (at b (c ∷ (m ++ start))).opened n t.0.0 t.0.1 in omega arith), deep_start d m t.1)
 
   -- what was packed when the link was added stays packed while it is kept
   counts : (m : List Call) → depth (at b start) ≡ suc n → LiveRun b (m ++ start) → Through Keep m start → Through (λ ds. count (at b start) ≤ count (at b ds)) m start
   counts [] d live t = omega arith
-  counts (◌∷◌ c m) d live t = (
-    (all_here (Undug b) (c ∷ (m ++ start)) (nest b (c ∷ (m ++ start)) live) start (c ∷ m) refl (deep_start d (c ∷ m) t) (calm (c ∷ m) live t)).fewer,
+  counts (c ∷ m) d live t = (
+    (throughout_here (Undug b) (c ∷ (m ++ start)) (nest b (c ∷ (m ++ start)) live) start (c ∷ m) refl (deep_start d (c ∷ m) t) (calm (c ∷ m) live t)).fewer,
     counts m d live.1 t.1,
   )
 

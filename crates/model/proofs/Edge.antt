@@ -27,7 +27,7 @@ use Rattle.model.proofs.Last.{relent_still}
 use Rattle.model.proofs.Effect.{Relent, Turns, Effect}
 use Rattle.model.proofs.Change.{call_effect}
 use Rattle.model.proofs.Effect.Effect.{same, opens, links, orders, lends, closes, packs, packs_entered, shares, drops, drops_back, cuts, cuts_back, enters, strikes}
-use Rattle.model.proofs.Moment.{All, all_here, all_drop, Turning, turning, live_taken}
+use Rattle.model.proofs.Moment.{Throughout, throughout_here, throughout_drop, Turning, turning, live_taken}
 use Rattle.model.proofs.Moment.Turning.{ahead, back, away}
 use Rattle.model.proofs.Nest.{Within, nest, since_live}
 
@@ -43,7 +43,7 @@ edge_low n ps t st (inr e) = let l = numbered_above n ps st e.0 e.1 e.2 in let z
 
 lowest_edge : (n : ℕ) (ps : List Object) → Edge n ps (lowest n ps)
 lowest_edge n [] = inl refl
-lowest_edge n (◌∷◌ p ps) = inr (length ps, p, numbered_here p ps, refl)
+lowest_edge n (p ∷ ps) = inr (length ps, p, numbered_here p ps, refl)
 
 edge_more : (n : ℕ) (o : Object) (ps : List Object) (t : ℕ) → Edge n ps t → Edge n (o ∷ ps) t
 edge_more n o ps t (inl e) = inl e
@@ -56,8 +56,8 @@ edge_relent n ps qs v t (inr e) = let w = relent_still ps qs v e.0 e.1 e.2 in in
 -- an edge at or above t is left by a discard down to t
 edge_left : (n : ℕ) (m : List ℕ) (t : ℕ) (ps : List Object) (p : Pool) (r : Pairs) (u : ℕ) → t ≤ u → Edge n ps u → Edge n (discard m t ps p r).left u
 edge_left n m t [] p r u l e = e
-edge_left n m t (◌∷◌ o os) p r u l (inl e) = inl e
-edge_left n m t (◌∷◌ o os) p r u l (inr e) = by_test (ltb o.head t) _ _ (λ (x : Discarded). Edge n x.left u)
+edge_left n m t (o ∷ os) p r u l (inl e) = inl e
+edge_left n m t (o ∷ os) p r u l (inr e) = by_test (ltb o.head t) _ _ (λ (x : Discarded). Edge n x.left u)
     (λ h. elim (cases_eq (length os) e.0) [
       | inl z ↦ let v = numbered_first o e.1 os e.0 z e.2 in absurd (let y = ltb-true o.head t h in let x = ap (λ (x : Object). x.head) v in let w = e.3 in omega arith)
       | inr z ↦ edge_left n m t os (slot_back p o.slot (links_of o)) (struck r (object_hash m o) (length os)) u l (inr (e.0, e.1, sym (numbered_there o os e.0 z) ∙ e.2, e.3))
@@ -75,45 +75,45 @@ discard_meets n m t ps p r l st e =
 
 abbrev marks : List Object → List (ℕ × ℕ)
 marks [] = []
-marks (◌∷◌ o os) = (o.head, o.tail) ∷ marks os
+marks (o ∷ os) = (o.head, o.tail) ∷ marks os
 
 -- each recorded tail is at or above t
 abbrev Above : ℕ → List (ℕ × ℕ) → Type 0
 Above t [] = Unit {0}
-Above t (◌∷◌ x xs) = (t ≤ x.1) × Above t xs
+Above t (x ∷ xs) = (t ≤ x.1) × Above t xs
 
 -- heads rise inward up to h, tails fall inward, and each is an edge
 abbrev Poised : ℕ → List Object → ℕ → List (ℕ × ℕ) → Type 0
 Poised n ps h [] = Unit {0}
-Poised n ps h (◌∷◌ x xs) = (x.0 ≤ h) × Edge n ps x.1 × Above x.1 xs × Poised n ps x.0 xs
+Poised n ps h (x ∷ xs) = (x.0 ≤ h) × Edge n ps x.1 × Above x.1 xs × Poised n ps x.0 xs
 
 poised_head : (n : ℕ) (ps : List Object) (h h' : ℕ) (xs : List (ℕ × ℕ)) → h ≤ h' → Poised n ps h xs → Poised n ps h' xs
 poised_head n ps h h' [] l d = tt
-poised_head n ps h h' (◌∷◌ x xs) l d = ((let z = d.0 in omega arith), d.1, d.2, d.3)
+poised_head n ps h h' (x ∷ xs) l d = ((let z = d.0 in omega arith), d.1, d.2, d.3)
 
 poised_packed : (n : ℕ) (ps qs : List Object) (t : ℕ) → ((u : ℕ) → t ≤ u → Edge n ps u → Edge n qs u) → (h : ℕ) (xs : List (ℕ × ℕ)) → Above t xs → Poised n ps h xs → Poised n qs h xs
 poised_packed n ps qs t f h [] a d = tt
-poised_packed n ps qs t f h (◌∷◌ x xs) a d = (d.0, f x.1 a.0 d.1, d.2, poised_packed n ps qs t f x.0 xs a.1 d.3)
+poised_packed n ps qs t f h (x ∷ xs) a d = (d.0, f x.1 a.0 d.1, d.2, poised_packed n ps qs t f x.0 xs a.1 d.3)
 
 above_zero : (xs : List (ℕ × ℕ)) → Above 0 xs
 above_zero [] = tt
-above_zero (◌∷◌ x xs) = (omega arith, above_zero xs)
+above_zero (x ∷ xs) = (omega arith, above_zero xs)
 
 -- what lies at or below the lowest lies below every recorded tail
 above_low : (n : ℕ) (ps : List Object) (t : ℕ) → Stacked n ps → t ≤ lowest n ps → (h : ℕ) (xs : List (ℕ × ℕ)) → Poised n ps h xs → Above t xs
 above_low n ps t st l h [] d = tt
-above_low n ps t st l h (◌∷◌ x xs) d = ((let z = edge_low n ps x.1 st d.1 in omega arith), above_low n ps t st l x.0 xs d.3)
+above_low n ps t st l h (x ∷ xs) d = ((let z = edge_low n ps x.1 st d.1 in omega arith), above_low n ps t st l x.0 xs d.3)
 
 cut_marks : (a b : ℕ) (os : List Object) → marks (cut_first a b os) ≡ marks os
 cut_marks a b [] = refl
-cut_marks a b (◌∷◌ o os) = refl
+cut_marks a b (o ∷ os) = refl
 
 -- the same records at every level
 marks_same : (os qs : List Object) → length os ≡ length qs → ((j : ℕ) (o q : Object) → numbered os j ≡ Some o → numbered qs j ≡ Some q → (q.head ≡ o.head) × (q.tail ≡ o.tail)) → marks os ≡ marks qs
 marks_same [] [] l f = refl
-marks_same [] (◌∷◌ q qs) l f = absurd (omega arith)
-marks_same (◌∷◌ o os) [] l f = absurd (omega arith)
-marks_same (◌∷◌ o os) (◌∷◌ q qs) l f =
+marks_same [] (q ∷ qs) l f = absurd (omega arith)
+marks_same (o ∷ os) [] l f = absurd (omega arith)
+marks_same (o ∷ os) (q ∷ qs) l f =
     let n : length os ≡ length qs = omega arith in
     let e = f (length qs) o q (numbered_at o os (length qs) n) (numbered_here q qs) in
     let ih = marks_same os qs n (λ j p v x y. let a = numbered_below os j p x in let b = numbered_below qs j v y in f j p v (numbered_there o os j (λ z. omega arith) ∙ x) (numbered_there q qs j (λ z. omega arith) ∙ y)) in
@@ -173,7 +173,7 @@ module _ (n : ℕ) (c : Call) (s : State) (sound : SoundState n s) (r : Pairs) (
 rewound_flags : (n : ℕ) (s : State) (r : Pairs) (h t : ℕ) → length s.memory ≡ n → Stacked n s.packed → t ≤ n → Edge n s.packed t → (rewound h t s r).state.flags ≡ s.flags
 rewound_flags n s r h t sized st l e =
     let ps = (discard s.memory t s.packed s.pool r).left in
-    let z : (elim ps [ [] ↦ length s.memory | ◌∷◌ p qs ↦ p.head ]) ≡ t = edge_lowest n s.memory ps sized ∙ discard_meets n s.memory t s.packed s.pool r l st e in
+    let z : (elim ps [ [] ↦ length s.memory | p ∷ qs ↦ p.head ]) ≡ t = edge_lowest n s.memory ps sized ∙ discard_meets n s.memory t s.packed s.pool r l st e in
     ap (λ (b : Bool). cond b s.flags (joined s.flags other)) (eq-eqb _ t z)
 
 discard_flags : (n : ℕ) (s : State) → SoundState n s → PoisedState n s → (r : Pairs) → (pop_discard s r).state.flags ≡ s.flags
@@ -181,7 +181,7 @@ discard_flags n s sound d r = by_test (idle s) _ _ (λ (x : Out (Unit {0})). x.s
   where
     first : (os : List Object) → s.opened ≡ os → (discard_first os s r).state.flags ≡ s.flags
     first [] e = refl
-    first (◌∷◌ o os) is =
+    first (o ∷ os) is =
         let i : (o.head ≤ s.head) × Edge n s.packed o.tail × Above o.tail (marks os) × Poised n s.packed o.head (marks os) = subst (λ (x : List Object). Poised n s.packed s.head (marks x)) is d in
         let l : o.tail ≤ n = (subst (Tails n) is sound.tails).0 in
         let s₁ = with_opened s os s.pool in
@@ -242,24 +242,24 @@ module _ (b : Beginning) where
   Fine cs = PoisedState (span b) (at b cs)
 
   -- at the moment of a live snapshot
-  then : (cs : List Call) → All Fine cs → (j : ℕ) (live : Live b j cs) → Fine live.before
-  then cs all j live = all_here Fine live.before (all_drop Fine (live.since ++ (Snap ∷ [])) live.before
-      (subst (All Fine) (live.made ∙ sym (append_assoc live.since (Snap ∷ []) live.before)) all))
+  then : (cs : List Call) → Throughout Fine cs → (j : ℕ) (live : Live b j cs) → Fine live.before
+  then cs all j live = throughout_here Fine live.before (throughout_drop Fine (live.since ++ (Snap ∷ [])) live.before
+      (subst (Throughout Fine) (live.made ∙ sym (append_assoc live.since (Snap ∷ []) live.before)) all))
 
-  next : (c : Call) (cs : List Call) → Turning c → MayRevert b (role c) cs → LiveRun b cs → All Fine cs → Fine (c ∷ cs)
+  next : (c : Call) (cs : List Call) → Turning c → MayRevert b (role c) cs → LiveRun b cs → Throughout Fine cs → Fine (c ∷ cs)
   next c cs (ahead plain) live run-live all =
-      effect_poised (span b) c (at b cs) (run_sound b cs) (run b cs).register (at b (◌∷◌ c cs)).memory (at b (◌∷◌ c cs)).head plain (all_here Fine cs all) (call_effect c (at b cs) (run b cs).register (run b cs).answers)
+      effect_poised (span b) c (at b cs) (run_sound b cs) (run b cs).register (at b (c ∷ cs)).memory (at b (c ∷ cs)).head plain (throughout_here Fine cs all) (call_effect c (at b cs) (run b cs).register (run b cs).answers)
   next c cs (back j) live run-live all =
       subst (λ (x : Option Snapshot). PoisedState (span b) (revert_to x (at b cs) (run b cs).register).state) (sym (live_taken b j cs live))
-      (reverted_poised (span b) (at b live.before) (at b cs) (run b cs).register (run_sound b live.before) (run_sound b cs) (since_live b cs (nest b cs run-live) j live) (sym live.again) (then cs all j live) (all_here Fine cs all))
+      (reverted_poised (span b) (at b live.before) (at b cs) (run b cs).register (run_sound b live.before) (run_sound b cs) (since_live b cs (nest b cs run-live) j live) (sym live.again) (then cs all j live) (throughout_here Fine cs all))
   next c cs (away p) live run-live all = absurd live
 
-  all_fine : (cs : List Call) → LiveRun b cs → All Fine cs
+  all_fine : (cs : List Call) → LiveRun b cs → Throughout Fine cs
   all_fine [] live = begun_poised (checked b.size b.slots b.cells b.register.capacity) b.size b.slots b.cells (span b)
-  all_fine (◌∷◌ c cs) live = let ih = all_fine cs live.1 in (next c cs (turning c) live.0 live.1 ih, ih)
+  all_fine (c ∷ cs) live = let ih = all_fine cs live.1 in (next c cs (turning c) live.0 live.1 ih, ih)
 
   fine : (cs : List Call) → LiveRun b cs → Fine cs
-  fine cs live = all_here Fine cs (all_fine cs live)
+  fine cs live = throughout_here Fine cs (all_fine cs live)
 
 pub edges : Edges
 edges = record {

@@ -28,30 +28,30 @@ pub record Alike (p q : Object) : Type 0 where
 
 abbrev pub Relent : List Object → List Object → Type 0
 Relent [] [] = Unit {0}
-Relent [] (◌∷◌ q qs) = ⊥
-Relent (◌∷◌ p ps) [] = ⊥
-Relent (◌∷◌ p ps) (◌∷◌ q qs) = Alike p q × Relent ps qs
+Relent [] (q ∷ qs) = ⊥
+Relent (p ∷ ps) [] = ⊥
+Relent (p ∷ ps) (q ∷ qs) = Alike p q × Relent ps qs
 
 pub alike_same : (p : Object) → Alike p p
 alike_same p = record { slot = refl; head = refl; tail = refl; real = refl }
 
 pub relent_same : (ps : List Object) → Relent ps ps
 relent_same [] = tt
-relent_same (◌∷◌ p ps) = (alike_same p, relent_same ps)
+relent_same (p ∷ ps) = (alike_same p, relent_same ps)
 
 pub relent_then : (ps qs rs : List Object) → Relent ps qs → Relent qs rs → Relent ps rs
 relent_then [] [] [] a b = tt
-relent_then [] [] (◌∷◌ r rs) a b = b
-relent_then [] (◌∷◌ q qs) rs a b = absurd a
-relent_then (◌∷◌ p ps) [] rs a b = absurd a
-relent_then (◌∷◌ p ps) (◌∷◌ q qs) [] a b = b
-relent_then (◌∷◌ p ps) (◌∷◌ q qs) (◌∷◌ r rs) a b =
+relent_then [] [] (r ∷ rs) a b = b
+relent_then [] (q ∷ qs) rs a b = absurd a
+relent_then (p ∷ ps) [] rs a b = absurd a
+relent_then (p ∷ ps) (q ∷ qs) [] a b = b
+relent_then (p ∷ ps) (q ∷ qs) (r ∷ rs) a b =
     let x = a.0 in let y = b.0 in
     (record { slot = y.slot ∙ x.slot; head = y.head ∙ x.head; tail = y.tail ∙ x.tail; real = y.real ∙ x.real }, relent_then ps qs rs a.1 b.1)
 
 pub lend_relent : (vs : List Link) (k : ℕ) (ps : List Object) → Relent ps (lend vs k ps)
 lend_relent vs k [] = tt
-lend_relent vs k (◌∷◌ p ps) = by_test (eqb (length ps) k) _ _ (Relent (p ∷ ps))
+lend_relent vs k (p ∷ ps) = by_test (eqb (length ps) k) _ _ (Relent (p ∷ ps))
     (λ e. (record { slot = refl; head = refl; tail = refl; real = refl }, relent_same ps)) (λ e. (alike_same p, lend_relent vs k ps))
 
 -- ---- the changes

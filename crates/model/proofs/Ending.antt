@@ -1,6 +1,6 @@
 -- What an ending that ends the serializer and leaves no flag has done, and what the bytes of its fields show.
 use Rattle.std.proofs.Common.{◌≡◌, ℕ, zero, suc, ◌+◌, ◌-◌, ◌*◌, ◌^◌, ◌<◌, ◌≤◌, Bool, true, false, cond, not, ◌||◌, eqb, ltb, List, [], ◌∷◌, ◌++◌, length, take, drop, pos, ◌-ℤ◌, Some, None, Option, sym, refl, ap, ◌∙◌, subst, arith, pow_pos, pow-add}
-use native.Mathlib.Nat.{pow-succ'}
+use Rattle.std.proofs.Math.Nat.{pow-succ'}
 use Rattle.cursor.specs.declared.flags.SerializeErrorFlags.{SerializeErrorFlags}
 use Rattle.cursor.specs.Flags.{none, other, hard, same_flags}
 use Rattle.link.specs.declared.ObjIdx.{ObjIdx}
@@ -91,9 +91,9 @@ pub record Ending (n : ℕ) (s : State) (s₃ : State) : Type 0 where
 none_open : (s : State) → nothing_open s ≡ true → s.opened ≡ []
 none_open s e = go s.opened e
   where
-    go : (os : List Object) → (elim os [ [] ↦ true | ◌∷◌ o os ↦ false ]) ≡ true → os ≡ []
+    go : (os : List Object) → (elim os [ [] ↦ true | o ∷ os ↦ false ]) ≡ true → os ≡ []
     go [] e = refl
-    go (◌∷◌ o os) e = absurd (both_ways false refl e)
+    go (o ∷ os) e = absurd (both_ways false refl e)
 
 module _ (n : ℕ) (s : State) (o : Object) (os : List Object) (is : s.opened ≡ o ∷ os) (clean : s.flags ≡ none) (w : State) (popped : w.flags ≡ none → Popped n s o w) (left : w.opened ≡ os) where
   resolved_ending : w.opened ≡ [] → w.flags ≡ none → (f : Option (List Field)) → fields w w.packed ≡ f → (resolved f w).flags ≡ none → (resolved f w).packed ≡ w.packed → Ending n s (resolved f w)
@@ -129,11 +129,11 @@ module _ (n : ℕ) (s : State) (d : SoundState n s) (r : Pairs) (going : s.ended
     where
       over : (o : Object) (os : List Object) → s.opened ≡ o ∷ os → s.flags ≡ none → (ps : List Object) → (end_over ps s r).state.ended ≡ true → (end_over ps s r).state.flags ≡ none → Ending n s (end_over ps s r).state
       over o os is clean [] e z = absurd (both_ways s.ended going e)
-      over o os is clean (◌∷◌ p ps) e z = closing o os is clean (pop_pack false s r) refl z
+      over o os is clean (p ∷ ps) e z = closing o os is clean (pop_pack false s r) refl z
 
       first : nothing_open s ≡ false → s.flags ≡ none → (os : List Object) → s.opened ≡ os → (end_over s.packed s r).state.ended ≡ true → (end_over s.packed s r).state.flags ≡ none → Ending n s (end_over s.packed s r).state
-      first u clean [] is = absurd (both_ways (nothing_open s) u (ap (λ (x : List Object). elim x as (λ y. Bool) [ [] ↦ true | ◌∷◌ p ps ↦ false ]) is))
-      first u clean (◌∷◌ o os) is = over o os is clean s.packed
+      first u clean [] is = absurd (both_ways (nothing_open s) u (ap (λ (x : List Object). elim x as (λ y. Bool) [ [] ↦ true | p ∷ ps ↦ false ]) is))
+      first u clean (o ∷ os) is = over o os is clean s.packed
 
 -- an ending without flags over an open object and packed ones ends
 pub end_ends : (s : State) (r : Pairs) → s.ended ≡ false → s.flags ≡ none → 0 < length s.opened → 0 < length s.packed → (end_serialize s r).state.ended ≡ true
@@ -141,13 +141,13 @@ end_ends s r going clean deep some =
     by_test (s.ended || nothing_open s) _ _ (λ (x : Out (Unit {0})). x.state.ended ≡ true) (λ t. absurd (both_ways (s.ended || nothing_open s) (or_from s.ended (nothing_open s) going (opens s.opened deep)) t))
     (λ t. by_test (flagged s) _ _ (λ (x : Out (Unit {0})). x.state.ended ≡ true) (λ f. absurd (both_ways (flagged s) (ap (λ (x : SerializeErrorFlags). not (same_flags x none)) clean) f)) (λ f. over s.packed some))
   where
-    opens : (os : List Object) → 0 < length os → (elim os [ [] ↦ true | ◌∷◌ o os ↦ false ]) ≡ false
+    opens : (os : List Object) → 0 < length os → (elim os [ [] ↦ true | o ∷ os ↦ false ]) ≡ false
     opens [] l = absurd (omega arith)
-    opens (◌∷◌ o os) l = refl
+    opens (o ∷ os) l = refl
 
     over : (ps : List Object) → 0 < length ps → (end_over ps s r).state.ended ≡ true
     over [] l = absurd (omega arith)
-    over (◌∷◌ p ps) l = resolve_ended (with_ended (pop_pack false s r).state)
+    over (p ∷ ps) l = resolve_ended (with_ended (pop_pack false s r).state)
 
 -- ---- what a field shows
 

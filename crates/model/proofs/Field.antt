@@ -21,12 +21,12 @@ pub record Lab (s : State) (ps : List Object) (k i : ℕ) (h : Field) : Type 0 w
 -- the fields of one object from its link n on
 abbrev Labs : State → List Object → ℕ → ℕ → List Field → Type 0
 Labs s ps k n [] = Unit {0}
-Labs s ps k n (◌∷◌ h hs) = Lab s ps k n h × Labs s ps k (suc n) hs
+Labs s ps k n (h ∷ hs) = Lab s ps k n h × Labs s ps k (suc n) hs
 
 -- each field belongs to another link than link i of the object k
 abbrev pub Others : State → List Object → ℕ → ℕ → List Field → Type 0
 Others s ps k i [] = Unit {0}
-Others s ps k i (◌∷◌ h hs) = ((k' i' : ℕ) × Lab s ps k' i' h × ((k' ≡ k) × (i' ≡ i) → ⊥)) × Others s ps k i hs
+Others s ps k i (h ∷ hs) = ((k' i' : ℕ) × Lab s ps k' i' h × ((k' ≡ k) × (i' ≡ i) → ⊥)) × Others s ps k i hs
 
 pub record Spot (s : State) (ps : List Object) (fs : List Field) (k i : ℕ) : Type 0 where
   pub front : List Field
@@ -54,7 +54,7 @@ field_some s o l (Some c) h e = (c, refl)
 labs_of : (s : State) (ps : List Object) (k : ℕ) (o : Object) → numbered ps k ≡ Some o → (done ls : List Link) (fs : List Field) → o.real ≡ done ++ ls → fields_of s o ls ≡ Some fs →
     Labs s ps k (length done) fs × (length fs ≡ length ls)
 labs_of s ps k o e done [] fs r f = let g = some_inj [] fs f in subst (λ (x : List Field). Labs s ps k (length done) x × (length x ≡ 0)) g (tt, refl)
-labs_of s ps k o e done (◌∷◌ l ls) fs r f =
+labs_of s ps k o e done (l ∷ ls) fs r f =
     let a = and_then_some (single (field s o l (numbered s.packed l.objidx.0))) (fields_of s o ls) fs f in
     let b = single_some (field s o l (numbered s.packed l.objidx.0)) a.0 a.2 in
     let c = field_some s o l (numbered s.packed l.objidx.0) b.0 b.1 in
@@ -81,7 +81,7 @@ labs_of s ps k o e done (◌∷◌ l ls) fs r f =
 -- the later fields of one object
 labs_others : (s : State) (ps : List Object) (k n i : ℕ) (fs : List Field) → i < n → Labs s ps k n fs → Others s ps k i fs
 labs_others s ps k n i [] l t = tt
-labs_others s ps k n i (◌∷◌ h hs) l t = ((k, n, t.0, λ z. let y = z.1 in omega arith), labs_others s ps k (suc n) i hs (omega arith) t.1)
+labs_others s ps k n i (h ∷ hs) l t = ((k, n, t.0, λ z. let y = z.1 in omega arith), labs_others s ps k (suc n) i hs (omega arith) t.1)
 
 -- behind other fields
 spot_behind : (s : State) (ps : List Object) (es fs : List Field) (k i : ℕ) → Spot s ps fs k i → Spot s ps (es ++ fs) k i
@@ -89,7 +89,7 @@ spot_behind s ps es fs k i q = record { front = es ++ q.front; here = q.here; re
 
 labs_spot : (s : State) (ps : List Object) (k n i : ℕ) (fs : List Field) → n ≤ i → i < n + length fs → Labs s ps k n fs → Spot s ps fs k i
 labs_spot s ps k n i [] l u t = absurd (omega arith)
-labs_spot s ps k n i (◌∷◌ h hs) l u t = elim (cases_Bool (eqb n i)) [
+labs_spot s ps k n i (h ∷ hs) l u t = elim (cases_Bool (eqb n i)) [
   | inl e ↦ subst (λ (x : ℕ). Spot s ps (h ∷ hs) k x) (eqb-true n i e) (record { front = []; here = h; rest = hs; split = refl; lab = t.0; others = labs_others s ps k (suc n) n hs (omega arith) t.1 })
   | inr e ↦ let ne = eqb-false n i e in spot_behind s ps (h ∷ []) hs k i (labs_spot s ps k (suc n) i hs (omega arith) (omega arith) t.1)
 ]
@@ -102,15 +102,15 @@ lab_more s o ps k i h t =
 
 others_more : (s : State) (o : Object) (ps : List Object) (k i : ℕ) (hs : List Field) → Others s ps k i hs → Others s (o ∷ ps) k i hs
 others_more s o ps k i [] t = tt
-others_more s o ps k i (◌∷◌ h hs) t = ((t.0.0, t.0.1, lab_more s o ps t.0.0 t.0.1 h t.0.2, t.0.3), others_more s o ps k i hs t.1)
+others_more s o ps k i (h ∷ hs) t = ((t.0.0, t.0.1, lab_more s o ps t.0.0 t.0.1 h t.0.2, t.0.3), others_more s o ps k i hs t.1)
 
 others_join : (s : State) (ps : List Object) (k i : ℕ) (xs ys : List Field) → Others s ps k i xs → Others s ps k i ys → Others s ps k i (xs ++ ys)
 others_join s ps k i [] ys a b = b
-others_join s ps k i (◌∷◌ x xs) ys a b = (a.0, others_join s ps k i xs ys a.1 b)
+others_join s ps k i (x ∷ xs) ys a b = (a.0, others_join s ps k i xs ys a.1 b)
 
 labs_apart : (s : State) (ps : List Object) (k n k' i : ℕ) (fs : List Field) → (k ≡ k' → ⊥) → Labs s ps k n fs → Others s ps k' i fs
 labs_apart s ps k n k' i [] ne t = tt
-labs_apart s ps k n k' i (◌∷◌ h hs) ne t = ((k, n, t.0, λ z. ne z.0), labs_apart s ps k (suc n) k' i hs ne t.1)
+labs_apart s ps k n k' i (h ∷ hs) ne t = ((k, n, t.0, λ z. ne z.0), labs_apart s ps k (suc n) k' i hs ne t.1)
 
 -- before the fields of one object more
 spot_more : (s : State) (o : Object) (ps : List Object) (es ds : List Field) (k i : ℕ) → Others s (o ∷ ps) k i ds → Spot s ps es k i → Spot s (o ∷ ps) (es ++ ds) k i
@@ -128,7 +128,7 @@ spot_more s o ps es ds k i t q = record {
 -- every link of a packed object has its field, and the fields behind it belong to other links
 pub spots : (s : State) (ps : List Object) (fs : List Field) → fields s ps ≡ Some fs → (k : ℕ) (p : Object) → numbered ps k ≡ Some p → (i : ℕ) → i < length p.real → Spot s ps fs k i
 spots s [] fs f k p e i l = absurd (none_some p e)
-spots s (◌∷◌ o os) fs f k p e i l =
+spots s (o ∷ os) fs f k p e i l =
     let a = and_then_some (fields s os) (fields_of s o o.real) fs f in
     let t = labs_of s (o ∷ os) (length os) o (numbered_here o os) [] o.real a.1 refl a.3 in
     subst (λ (x : List Field). Spot s (o ∷ os) x k i) (sym a.4)
@@ -144,7 +144,7 @@ spots s (◌∷◌ o os) fs f k p e i l =
 -- each field belongs to a link, seen from a number that no object has
 pub all_labelled : (s : State) (ps : List Object) (fs : List Field) → fields s ps ≡ Some fs → (k i : ℕ) → length ps ≤ k → Others s ps k i fs
 all_labelled s [] fs f k i l = let g = some_inj [] fs f in subst (λ (x : List Field). Others s [] k i x) g tt
-all_labelled s (◌∷◌ o os) fs f k i l =
+all_labelled s (o ∷ os) fs f k i l =
     let a = and_then_some (fields s os) (fields_of s o o.real) fs f in
     let t = labs_of s (o ∷ os) (length os) o (numbered_here o os) [] o.real a.1 refl a.3 in
     subst (λ (x : List Field). Others s (o ∷ os) k i x) (sym a.4)

@@ -25,7 +25,7 @@ put_sound n f s d =
 
 puts_sound : (n : ℕ) (fs : List Field) (s : State) → SoundState n s → SoundState n (put_fields fs s)
 puts_sound n [] s d = d
-puts_sound n (◌∷◌ f fs) s d = puts_sound n fs (put_field f s) (put_sound n f s d)
+puts_sound n (f ∷ fs) s d = puts_sound n fs (put_field f s) (put_sound n f s d)
 
 resolved_sound : (n : ℕ) (o : Option (List Field)) (s : State) → SoundState n s → SoundState n (resolved o s)
 resolved_sound n None s d = flag_sound n s other d
@@ -46,13 +46,13 @@ end_sound n s d r =
 
     over : (ps : List Object) → SoundState n (end_over ps s r).state
     over [] = d
-    over (◌∷◌ p ps) = resolve_sound n (with_ended (pop_pack false s r).state) (pop_pack_good n s d false r).0
+    over (p ∷ ps) = resolve_sound n (with_ended (pop_pack false s r).state) (pop_pack_good n s d false r).0
 
 -- ---- ended
 
 put_ended : (fs : List Field) (s : State) → (put_fields fs s).ended ≡ s.ended
 put_ended [] s = refl
-put_ended (◌∷◌ f fs) s = put_ended fs (put_field f s) ∙ one
+put_ended (f ∷ fs) s = put_ended fs (put_field f s) ∙ one
   where
     one : (put_field f s).ended ≡ s.ended
     one = by_test (eqb f.width 0) _ _ (λ (x : State). x.ended ≡ s.ended) (λ e. refl)
@@ -79,7 +79,7 @@ end_quiet s r = by_test (s.ended || nothing_open s) _ _ (λ (x : Out (Unit {0}))
   where
     over : (s.ended || nothing_open s) ≡ false → (ps : List Object) → (end_over ps s r).state.ended ≡ s.ended → Quiet s r (end_over ps s r)
     over going [] n = record { memory = refl; packed = refl; register = refl }
-    over going (◌∷◌ p ps) n = absurd (both_ways s.ended (or_parts s.ended (nothing_open s) going).0 (sym n ∙ resolve_ended (with_ended (pop_pack false s r).state)))
+    over going (p ∷ ps) n = absurd (both_ways s.ended (or_parts s.ended (nothing_open s) going).0 (sym n ∙ resolve_ended (with_ended (pop_pack false s r).state)))
 
 -- an ended serializer stays so
 pub end_stays : (s : State) (r : Pairs) → (end_serialize s r).state.ended ≡ false → s.ended ≡ false

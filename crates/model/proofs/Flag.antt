@@ -1,6 +1,7 @@
 -- Flags: a hard set stays hard whatever joins it, and joining none changes nothing.
 use Rattle.std.proofs.Common.{◌≡◌, ℕ, zero, suc, ◌<◌, ◌≤◌, Bool, true, false, not, ◌&&◌, ◌||◌, eqb, sym, refl, ap, subst, inl, inr, not-suc-le-zero, arith}
-use lib.Bits.{bit_or, or_add_and, and_le_l, and_le_r, or_zero_r}
+use Rattle.std.specs.Int.Bits.{bit_or, or_add_and, or_zero_r}
+use Rattle.std.proofs.lemmas.Nat.{and_le_l, and_le_r}
 use Rattle.cursor.specs.declared.flags.SerializeErrorFlags.{SerializeErrorFlags}
 use Rattle.cursor.specs.Flags.{flags, none, joined, hard}
 use Rattle.std.proofs.lemmas.Bool.{cases_Bool, cases_lt, eqb-true, eqb-false, or_cases, and_parts, both_ways, not-false}

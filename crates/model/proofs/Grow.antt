@@ -52,7 +52,7 @@ module _ (h t : ℕ) where
 
 pub discard_floor : (m : List ℕ) (t : ℕ) (ps : List Object) (p : Pool) (r : Pairs) (f : ℕ) → f ≤ length ps → ((k : ℕ) (q : Object) → k < f → numbered ps k ≡ Some q → t ≤ q.head) → f ≤ length (discard m t ps p r).left
 discard_floor m t [] p r f l h = l
-discard_floor m t (◌∷◌ o os) p r f l h = by_test (ltb o.head t) _ _ (λ (x : Discarded). f ≤ length x.left)
+discard_floor m t (o ∷ os) p r f l h = by_test (ltb o.head t) _ _ (λ (x : Discarded). f ≤ length x.left)
     (λ e. let g : f ≤ length os = elim (cases_lt (length os) f)
     [ inl u ↦ let z : t ≤ o.head = h (length os) o u (numbered_here o os) in absurd (let y = ltb-true o.head t e in omega arith) | inr u ↦ u ] in
     discard_floor m t os (slot_back p o.slot (links_of o)) (struck r (object_hash m o) (length os)) f g

@@ -34,14 +34,14 @@ persist_new o ps k p e l = let b : k < length ps = numbered_below ps k p e in st
 
 pub relent_length : (ps qs : List Object) → Relent ps qs → length qs ≡ length ps
 relent_length [] [] t = refl
-relent_length [] (◌∷◌ q qs) t = absurd t
-relent_length (◌∷◌ p ps) [] t = absurd t
-relent_length (◌∷◌ p ps) (◌∷◌ q qs) t = ap suc (relent_length ps qs t.1)
+relent_length [] (q ∷ qs) t = absurd t
+relent_length (p ∷ ps) [] t = absurd t
+relent_length (p ∷ ps) (q ∷ qs) t = ap suc (relent_length ps qs t.1)
 
 pub relent_still : (ps qs : List Object) → Relent ps qs → (k : ℕ) (p : Object) → numbered ps k ≡ Some p → Still qs k p
 relent_still [] qs t k p e = absurd (none_some p e)
-relent_still (◌∷◌ x ps) [] t k p e = absurd t
-relent_still (◌∷◌ x ps) (◌∷◌ y qs) t k p e =
+relent_still (x ∷ ps) [] t k p e = absurd t
+relent_still (x ∷ ps) (y ∷ qs) t k p e =
     let n = relent_length ps qs t.1 in
     by_test (eqb (length ps) k) (Some x) (numbered ps k) (λ (z : Option Object). z ≡ Some p → Still (y ∷ qs) k p)
     (λ u f. let g : x ≡ p = some_inj x p f in
@@ -53,12 +53,12 @@ relent_still (◌∷◌ x ps) (◌∷◌ y qs) t k p e =
 
 pub discard_fewer : (m : List ℕ) (t : ℕ) (ps : List Object) (p : Pool) (r : Pairs) → length (discard m t ps p r).left ≤ length ps
 discard_fewer m t [] p r = omega arith
-discard_fewer m t (◌∷◌ o os) p r = by_test (ltb o.head t) _ _ (λ (x : Discarded). length x.left ≤ suc (length os))
+discard_fewer m t (o ∷ os) p r = by_test (ltb o.head t) _ _ (λ (x : Discarded). length x.left ≤ suc (length os))
     (λ e. let l = discard_fewer m t os (slot_back p o.slot (links_of o)) (struck r (object_hash m o) (length os)) in omega arith) (λ e. omega arith)
 
 pub discard_persist : (m : List ℕ) (t : ℕ) (ps : List Object) (p : Pool) (r : Pairs) → Persist ps (discard m t ps p r).left
 discard_persist m t [] p r = persist_same []
-discard_persist m t (◌∷◌ o os) p r = by_test (ltb o.head t) _ _ (λ (x : Discarded). Persist (o ∷ os) x.left)
+discard_persist m t (o ∷ os) p r = by_test (ltb o.head t) _ _ (λ (x : Discarded). Persist (o ∷ os) x.left)
     (λ e. let r' = struck r (object_hash m o) (length os) in let p' = slot_back p o.slot (links_of o) in let f = discard_fewer m t os p' r' in
     λ k q n l. discard_persist m t os p' r' k q (sym (numbered_there o os k (λ z. omega arith)) ∙ n) l)
     (λ e. persist_same (o ∷ os))
@@ -66,7 +66,7 @@ discard_persist m t (◌∷◌ o os) p r = by_test (ltb o.head t) _ _ (λ (x : D
 -- only pairs of discarded numbers are struck
 pub discard_pairs : (m : List ℕ) (t : ℕ) (ps : List Object) (p : Pool) (r : Pairs) (h k : ℕ) → k < length (discard m t ps p r).left → (discard m t ps p r).register.has h k ≡ r.has h k
 discard_pairs m t [] p r h k = λ l. refl
-discard_pairs m t (◌∷◌ o os) p r h k = by_test (ltb o.head t) _ _ (λ (x : Discarded). k < length x.left → x.register.has h k ≡ r.has h k)
+discard_pairs m t (o ∷ os) p r h k = by_test (ltb o.head t) _ _ (λ (x : Discarded). k < length x.left → x.register.has h k ≡ r.has h k)
     (λ e l. let r' = struck r (object_hash m o) (length os) in let p' = slot_back p o.slot (links_of o) in let f = discard_fewer m t os p' r' in
     discard_pairs m t os p' r' h k l ∙ has_struck r (object_hash m o) (length os) h k (other_pair (object_hash m o) (length os) h k (λ z. omega arith)))
     (λ e l. refl)

@@ -49,7 +49,7 @@ pub length_part : (m : List ℕ) (a b : ℕ) → b ≤ length m → length (part
 length_part m a b l = simp (length-take, length-drop) (omega arith)
 
 -- one byte as a part
-pub get_d_part : (m : List ℕ) (x : ℕ) → get_or m x 0 ≡ get_or (part m x (suc x)) 0 0
-get_d_part m x =
+pub get_or_part : (m : List ℕ) (x : ℕ) → get_or m x 0 ≡ get_or (part m x (suc x)) 0 0
+get_or_part m x =
     let z : suc x - x ≡ 1 = omega arith in
     sym (ap (λ (y : ℕ). get_or (take y (drop x m)) 0 0) z ∙ (get_or-take 1 (drop x m) 0 0 (omega arith) ∙ (get_or-drop x m 0 0 ∙ ap (λ (y : ℕ). get_or m y 0) (omega arith))))

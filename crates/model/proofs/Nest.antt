@@ -21,7 +21,7 @@ use Rattle.model.proofs.Slot.{cut_length}
 use Rattle.model.proofs.Effect.{Turns}
 use Rattle.model.proofs.Change.{call_effect}
 use Rattle.model.proofs.Grow.{Step, discard_floor, effect_step}
-use Rattle.model.proofs.Moment.{All, all_here, all_drop, Turning, turning, through_here, through_split, through_snoc, split_two, older_snoc, live_taken}
+use Rattle.model.proofs.Moment.{Throughout, throughout_here, throughout_drop, Turning, turning, through_here, through_split, through_snoc, split_two, older_snoc, live_taken}
 use Rattle.model.proofs.Moment.Turning.{ahead, back, away}
 
 -- ---- within
@@ -112,7 +112,7 @@ module _ (n : ℕ) (s₀ s s' : State) (d : SoundState n s) (w : Within s₀ s) 
 pub cut_level : (a b : ℕ) (os : List Object) (j : ℕ) (o' : Object) → numbered (cut_first a b os) j ≡ Some o' →
     (o : Object) × (numbered os j ≡ Some o) × (o'.head ≡ o.head) × (o'.tail ≡ o.tail) × (((suc j ≡ length os) × (o'.real ≡ take a o.real)) ⊎ (o'.real ≡ o.real))
 cut_level a b [] j o' e = absurd (none_some o' e)
-cut_level a b (◌∷◌ o os) j o' e = elim (cases_Bool (eqb (length os) j)) [
+cut_level a b (o ∷ os) j o' e = elim (cases_Bool (eqb (length os) j)) [
   | inl u ↦ let g = eqb-true (length os) j u in
       let v = numbered_first _ o' os j g e in
       (o, numbered_at o os j g, sym (ap (λ (x : Object). x.head) v), sym (ap (λ (x : Object). x.tail) v), inl (ap suc (sym g), sym (ap (λ (x : Object). x.real) v)))
@@ -121,7 +121,7 @@ cut_level a b (◌∷◌ o os) j o' e = elim (cases_Bool (eqb (length os) j)) [
 
 pub snap_real : (os : List Object) (j : ℕ) (o : Object) → suc j ≡ length os → numbered os j ≡ Some o → real_count os ≡ length o.real
 snap_real [] j o l e = absurd (none_some o e)
-snap_real (◌∷◌ q os) j o l e = let g : length os ≡ j = omega arith in ap (λ (x : Object). length x.real) (numbered_first q o os j g e)
+snap_real (q ∷ os) j o l e = let g : length os ≡ j = omega arith in ap (λ (x : Object). length x.real) (numbered_first q o os j g e)
 
 module _ (n : ℕ) (s₀ t s : State) (r : Pairs) (d : SoundState n s) (w : Within s₀ s) (v : Within s₀ t) (u : Within t s)
     (deep₀ : depth s₀ ≤ depth t) (level : depth t ≡ depth s) where
@@ -164,15 +164,15 @@ module _ (n : ℕ) (s₀ t s : State) (r : Pairs) (d : SoundState n s) (w : With
 -- each of the calls reverts no snapshot older than the n-th call, or does nothing
 abbrev pub Calm : Beginning → ℕ → List Call → List Call → Type 0
 Calm b n [] before = Unit {0}
-Calm b n (◌∷◌ c since) before = (NotOlder n (role c) ⊎ (at b (◌∷◌ c (since ++ before)) ≡ at b (since ++ before))) × Calm b n since before
+Calm b n (c ∷ since) before = (NotOlder n (role c) ⊎ (at b (c ∷ (since ++ before)) ≡ at b (since ++ before))) × Calm b n since before
 
 calm_split : (b : Beginning) (n : ℕ) (xs ys before : List Call) → Calm b n (xs ++ ys) before → Calm b n ys before
 calm_split b n [] ys before t = t
-calm_split b n (◌∷◌ c xs) ys before t = calm_split b n xs ys before t.1
+calm_split b n (c ∷ xs) ys before t = calm_split b n xs ys before t.1
 
 pub calm_from : (b : Beginning) (n : ℕ) (xs before : List Call) → NoneOlder n xs → Calm b n xs before
 calm_from b n [] before t = tt
-calm_from b n (◌∷◌ c xs) before t = (inl t.0, calm_from b n xs before t.1)
+calm_from b n (c ∷ xs) before t = (inl t.0, calm_from b n xs before t.1)
 
 module _ (b : Beginning) where
   abbrev pub Undug : List Call → Type 0
@@ -182,18 +182,18 @@ module _ (b : Beginning) where
   same cs before e = subst (λ (x : List Call). Within (at b x) (at b cs)) e (within_same (span b) (at b cs) (run_sound b cs))
 
   -- from the moment of a live snapshot on
-  pub since_live : (cs : List Call) → All Undug cs → (j : ℕ) (live : Live b j cs) → Within (at b live.before) (at b cs)
+  pub since_live : (cs : List Call) → Throughout Undug cs → (j : ℕ) (live : Live b j cs) → Within (at b live.before) (at b cs)
   since_live cs all j live =
       let bs = live.before in
       let ys = live.since ++ (Snap ∷ []) in
-      all_here Undug cs all bs ys (live.made ∙ sym (append_assoc live.since (Snap ∷ []) bs))
+      throughout_here Undug cs all bs ys (live.made ∙ sym (append_assoc live.since (Snap ∷ []) bs))
       (through_snoc (λ ds. depth (at b bs) ≤ depth (at b ds)) live.since Snap bs live.not_closed (omega arith))
       (calm_from b (length bs) ys bs (older_snoc (length bs) live.since Snap (subst (λ (x : ℕ). NoneOlder x live.since) (sym live.then) live.not_older) tt))
 
-  module _ (cs : List Call) (all : All Undug cs) (before since : List Call) (is : cs ≡ since ++ before)
+  module _ (cs : List Call) (all : Throughout Undug cs) (before since : List Call) (is : cs ≡ since ++ before)
       (t : Through (λ ds. depth (at b before) ≤ depth (at b ds)) since before) (o : Calm b (length before) since before) where
     w : Within (at b before) (at b cs)
-    w = all_here Undug cs all before since is t o
+    w = throughout_here Undug cs all before since is t o
 
     deep_now : depth (at b before) ≤ depth (at b cs)
     deep_now = subst (λ (x : List Call). depth (at b before) ≤ depth (at b x)) (sym is) (through_here (λ ds. depth (at b before) ≤ depth (at b ds)) since before t)
@@ -210,30 +210,30 @@ module _ (b : Beginning) where
         let P : List Call → Type 0 = λ ds. depth (at b before) ≤ depth (at b ds) in
         let tm : Through P q.0 before = through_split P ys q.0 before (subst (λ (x : List Call). Through P x before) q.2 t) in
         let om : Calm b (length before) q.0 before = calm_split b (length before) ys q.0 before (subst (λ (x : List Call). Calm b (length before) x before) q.2 o) in
-        let v : Within (at b before) (at b bs) = all_here Undug bs (all_drop Undug ys bs (subst (All Undug) made all)) before q.0 q.1 tm om in
+        let v : Within (at b before) (at b bs) = throughout_here Undug bs (throughout_drop Undug ys bs (subst (Throughout Undug) made all)) before q.0 q.1 tm om in
         let d₀ : depth (at b before) ≤ depth (at b bs) = subst (λ (x : List Call). depth (at b before) ≤ depth (at b x)) (sym q.1) (through_here P q.0 before tm) in
         subst (λ (x : Option Snapshot). Within (at b before) (revert_to x (at b cs) (run b cs).register).state) (sym (live_taken b j cs live))
         (within_revert (span b) (at b before) (at b bs) (at b cs) (run b cs).register (run_sound b cs) w v (since_live cs all j live) d₀ (sym live.again))
 
     next_by : (c : Call) → Turning c → MayRevert b (role c) cs → NotOlder (length before) (role c) → depth (at b before) ≤ depth (at b (c ∷ cs)) → Within (at b before) (at b (c ∷ cs))
     next_by c (ahead n) live l deep = plain c n deep
-    next_by c (back j) live l deep = turned j live l
-    next_by c (away p) live l deep = absurd live
+    next_by c (back j) live l _ = turned j live l
+    next_by c (away p) live l _ = absurd live
 
     next : (c : Call) → MayRevert b (role c) cs → (NotOlder (length before) (role c) ⊎ (at b (c ∷ cs) ≡ at b cs)) → depth (at b before) ≤ depth (at b (c ∷ cs)) → Within (at b before) (at b (c ∷ cs))
     next c live (inl l) deep = next_by c (turning c) live l deep
-    next c live (inr e) deep = subst (λ (x : State). Within (at b before) x) (sym e) w
+    next c live (inr e) _ = subst (λ (x : State). Within (at b before) x) (sym e) w
 
-  pub nest : (cs : List Call) → LiveRun b cs → All Undug cs
+  pub nest : (cs : List Call) → LiveRun b cs → Throughout Undug cs
   nest [] live = λ before since e t o. first before since e
     where
       first : (before since : List Call) → [] ≡ since ++ before → Within (at b before) (at b [])
       first before [] e = same [] before e
-      first before (◌∷◌ c since) e = absurd (let z = ap length e in omega arith)
-  nest (◌∷◌ c cs) live = (step (nest cs live.1), nest cs live.1)
+      first before (c ∷ since) e = absurd (let z = ap length e in omega arith)
+  nest (c ∷ cs) live = (step (nest cs live.1), nest cs live.1)
     where
-      step : All Undug cs → Undug (c ∷ cs)
+      step : Throughout Undug cs → Undug (c ∷ cs)
       step all before [] e t o = same (c ∷ cs) before e
-      step all before (◌∷◌ x since) e t o =
+      step all before (x ∷ since) e t o =
           let y : c ≡ x = cc in let f : cs ≡ since ++ before = cc in
           next cs all before since f t.1 o.1 c live.0 (subst₂ (λ (z : Call) (zs : List Call). NotOlder (length before) (role z) ⊎ (at b (z ∷ zs) ≡ at b zs)) (sym y) (sym f) o.0) (subst (λ (z : List Call). depth (at b before) ≤ depth (at b z)) (sym e) t.0)

@@ -22,7 +22,7 @@ use Rattle.model.specs.Run.Answer.{Bytes}
 use Rattle.model.specs.Moments.{at, span}
 use Rattle.model.specs.Offsets.{distance, shown, FieldOf, from, to, Inside, MeetsNone, ReadsBack, contents, LawC}
 use Rattle.model.proofs.Split.{by_test, if_false}
-use Rattle.model.proofs.Memory.{part_inside, get_d_part}
+use Rattle.model.proofs.Memory.{part_inside, get_or_part}
 use Rattle.model.proofs.Number.{none_some, some_inj, nth_below}
 use Rattle.model.proofs.Sound.{under_end}
 use Rattle.model.proofs.Packing.{not_hard}
@@ -52,14 +52,14 @@ says s o c l h = by_test (ltb (reach s l.whence o c).0 ((reach s l.whence o c).1
 clear_from : (s : State) (ps : List Object) (k i p q : ℕ) (fs : List Field) → Others s ps k i fs →
     ((k' i' : ℕ) (h : Field) → Lab s ps k' i' h → ((k' ≡ k) × (i' ≡ i) → ⊥) → (h.width ≡ 0 → ⊥) → (q ≤ h.place) ⊎ (h.place + h.width ≤ p)) → Clear p q fs
 clear_from s ps k i p q [] o c = tt
-clear_from s ps k i p q (◌∷◌ h hs) o c = (c o.0.0 o.0.1 h o.0.2 o.0.3, clear_from s ps k i p q hs o.1 c)
+clear_from s ps k i p q (h ∷ hs) o c = (c o.0.0 o.0.1 h o.0.2 o.0.3, clear_from s ps k i p q hs o.1 c)
 
 less_bias : (a c d : ℕ) → c + d ≤ a → (pos a -ℤ pos c) -ℤ pos d ≡ pos (a - (c + d))
 less_bias a c d l = omega (arith, ints)
 
 -- ---- an ending
 
-module _ (b : Beginning) (cs : List Call) (going : (at b cs).ended ≡ false) (ended : (at b (◌∷◌ End cs)).ended ≡ true) (done : (at b (◌∷◌ End cs)).flags ≡ none) where
+module _ (b : Beginning) (cs : List Call) (going : (at b cs).ended ≡ false) (ended : (at b (End ∷ cs)).ended ≡ true) (done : (at b (End ∷ cs)).flags ≡ none) where
   abbrev n : ℕ
   n = span b
 
@@ -67,7 +67,7 @@ module _ (b : Beginning) (cs : List Call) (going : (at b cs).ended ≡ false) (e
   s = at b cs
 
   abbrev s₃ : State
-  s₃ = at b (◌∷◌ End cs)
+  s₃ = at b (End ∷ cs)
 
   e : Ending n s s₃
   e = end_ending n s (run_sound b cs) (run b cs).register going ended done
@@ -105,7 +105,7 @@ module _ (b : Beginning) (cs : List Call) (going : (at b cs).ended ≡ false) (e
       ap (λ (x : List ℕ). part s.memory o.head s.head ++ x) (contents_drop n s s.packed d.stacked d.sized ∙ ap (λ (x : ℕ). drop x s.memory) (sym (not_hard n s d (ap hard e.clean)))) ∙ sym e.popped.after
 
   after_length : length (drop s₃.tail s₃.memory) ≡ length (drop w.tail w.memory)
-  after_length = length-drop s₃.tail s₃.memory ∙ ((let x = e.placed.tail in let y = (run_sound b (◌∷◌ End cs)).sized in let z = e.popped.sound.sized in omega arith) ∙ sym (length-drop w.tail w.memory))
+  after_length = length-drop s₃.tail s₃.memory ∙ ((let x = e.placed.tail in let y = (run_sound b (End ∷ cs)).sized in let z = e.popped.sound.sized in omega arith) ∙ sym (length-drop w.tail w.memory))
 
   labelled : Others w w.packed (length w.packed) 0 fs
   labelled = all_labelled w w.packed fs e.these (length w.packed) 0 (omega arith)
@@ -130,10 +130,10 @@ module _ (b : Beginning) (cs : List Call) (going : (at b cs).ended ≡ false) (e
 
   unchanged : (j : ℕ) → j < length (drop s₃.tail s₃.memory) → (Inside s₃ (o.head + j) → ⊥) → get_or (drop s₃.tail s₃.memory) j 0 ≡ get_or (part s.memory o.head s.head ++ contents s s.packed) j 0
   unchanged j l out =
-      get_or-drop s₃.tail s₃.memory j 0 ∙ (ap (λ (x : ℕ). get_or s₃.memory (x + j) 0) e.placed.tail ∙ (get_d_part s₃.memory (w.tail + j)
+      get_or-drop s₃.tail s₃.memory j 0 ∙ (ap (λ (x : ℕ). get_or s₃.memory (x + j) 0) e.placed.tail ∙ (get_or_part s₃.memory (w.tail + j)
       ∙ (ap (λ (x : List ℕ). get_or x 0 0) (outside (w.tail + j) (suc (w.tail + j)) (λ k i h t ne.
       elim (cases_lt (w.tail + j) h.place) [ inl u ↦ inl u | inr u ↦ elim (cases_lt (w.tail + j) (h.place + h.width)) [ inl v ↦ absurd (out (inside_so j k i h t ne u v)) | inr v ↦ inr v ] ]))
-      ∙ (sym (get_d_part w.memory (w.tail + j)) ∙ (sym (get_or-drop w.tail w.memory j 0) ∙ ap (λ (x : List ℕ). get_or x j 0) (sym before_is))))))
+      ∙ (sym (get_or_part w.memory (w.tail + j)) ∙ (sym (get_or-drop w.tail w.memory j 0) ∙ ap (λ (x : List ℕ). get_or x j 0) (sym before_is))))))
 
   -- ---- a field read
 
@@ -195,7 +195,7 @@ module _ (b : Beginning) (cs : List Call) (going : (at b cs).ended ≡ false) (e
 
     in_output : part (output s₃) (from f) (to f) ≡ part s₃.memory h.place (h.place + h.width)
     in_output =
-        let d = run_sound b (◌∷◌ End cs) in
+        let d = run_sound b (End ∷ cs) in
         let u : s₃.tail ≤ n = under_end n s₃ d in
         let y = (f.object.head - s₃.tail) + f.link.position in
         let a : length (take s₃.head s₃.memory) ≡ s₃.head = length-take-le s₃.head s₃.memory (omega (arith, d.below, d.sized)) in
@@ -225,16 +225,16 @@ module _ (b : Beginning) (cs : List Call) (going : (at b cs).ended ≡ false) (e
             let x = e.placed.tail in let y = e.placed.head in let lo = low in
             ap pos (let z : val ≡ s₃.head + (t.child.head - s₃.tail) - bias = omega arith in z) ∙ sym (minus (s₃.head + (t.child.head - s₃.tail)) bias (omega arith))
 
-    reads_back : ReadsBack b (◌∷◌ End cs) k i f
+    reads_back : ReadsBack b (End ∷ cs) k i f
     reads_back =
-        let a = all_added b (◌∷◌ End cs) k f.object f.packed i f.link f.linked in
+        let a = all_added b (End ∷ cs) k f.object f.packed i f.link f.linked in
         record {
           added = a;
           child = t.child;
           named = child_named;
           shows = ap (shown f.link.is_signed) (in_output ∙ in_memory) ∙ (ap (λ (x : Bool). shown x (big_endian h.width h.value)) (sym said.signed)
               ∙ (shown_field h.width h.value h.signed (let z = wide in omega arith) (fit.1.0 wide).0 ∙ far_so));
-          stood = λ live c q. child_stood b (◌∷◌ End cs) live k i f.link a f.link.objidx.0 c q;
+          stood = λ live c q. child_stood b (End ∷ cs) live k i f.link a f.link.objidx.0 c q;
         }
 
   pub law_c : LawC b cs

@@ -25,7 +25,7 @@ module _ (b : Beginning) where
     range_to : ℕ
     meanwhile : List Call
     made : cs ≡ meanwhile ++ (adds l range_from range_to ∷ before)
-    accepted : answered b (◌∷◌ (adds l range_from range_to) before) ≡ Done (Ok tt)
+    accepted : answered b (adds l range_from range_to ∷ before) ≡ Done (Ok tt)
     parent : Object
     below : List Object
     opened : (at b before).opened ≡ parent ∷ below
@@ -35,7 +35,7 @@ module _ (b : Beginning) where
     long : range_to - range_from ≡ bytes_of_width l.width
     kept : Through (λ ds. HasLink (at b ds).opened (length below) i l) meanwhile (adds l range_from range_to ∷ before)
 
-  pend_next : (c : Call) (cs : List Call) (j i : ℕ) (l : Link) → HasLink (at b (◌∷◌ c cs)).opened j i l → Pending cs j i l → Pending (c ∷ cs) j i l
+  pend_next : (c : Call) (cs : List Call) (j i : ℕ) (l : Link) → HasLink (at b (c ∷ cs)).opened j i l → Pending cs j i l → Pending (c ∷ cs) j i l
   pend_next c cs j i l h t = record {
     before = t.before;
     range_from = t.range_from;
@@ -53,15 +53,15 @@ module _ (b : Beginning) where
     kept = (subst (λ (x : ℕ). HasLink (at b (c ∷ (t.meanwhile ++ (adds l t.range_from t.range_to ∷ t.before)))).opened x i l) (sym t.level) (subst (λ (x : List Call). HasLink (at b (c ∷ x)).opened j i l) t.made h), t.kept);
   }
 
-  pend_new : (c : Call) (cs : List Call) (j i : ℕ) (o o' : Object) (os : List Object) (l : Link) → (at b cs).opened ≡ o ∷ os → (at b (◌∷◌ c cs)).opened ≡ o' ∷ os → j ≡ length os → o'.real ≡ o.real ++ (l ∷ []) →
-      i ≡ length o.real → Adds c (answered b (◌∷◌ c cs)) o l → Pending (c ∷ cs) j i l
+  pend_new : (c : Call) (cs : List Call) (j i : ℕ) (o o' : Object) (os : List Object) (l : Link) → (at b cs).opened ≡ o ∷ os → (at b (c ∷ cs)).opened ≡ o' ∷ os → j ≡ length os → o'.real ≡ o.real ++ (l ∷ []) →
+      i ≡ length o.real → Adds c (answered b (c ∷ cs)) o l → Pending (c ∷ cs) j i l
   pend_new c cs j i o o' os l e f g h k a = record {
     before = cs;
     range_from = a.range_from;
     range_to = a.range_to;
     meanwhile = [];
     made = ap (λ (x : Call). x ∷ cs) a.is;
-    accepted = subst (λ (x : Call). answered b (◌∷◌ x cs) ≡ Done (Ok tt)) a.is a.accepted;
+    accepted = subst (λ (x : Call). answered b (x ∷ cs) ≡ Done (Ok tt)) a.is a.accepted;
     parent = o;
     below = os;
     opened = e;
@@ -69,7 +69,7 @@ module _ (b : Beginning) where
     next = sym k;
     starts = a.starts;
     long = a.long;
-    kept = subst (λ (x : Call). HasLink (at b (◌∷◌ x cs)).opened (length os) i l) a.is
+    kept = subst (λ (x : Call). HasLink (at b (x ∷ cs)).opened (length os) i l) a.is
         (o', ap (λ (x : List Object). numbered x (length os)) f ∙ numbered_here o' os, subst (λ (x : ℕ). nth o'.real x ≡ Some l) (sym k) (subst (λ (x : List Link). nth x (length o.real) ≡ Some l) (sym h) (nth_at o.real l [])));
   }
 
@@ -79,16 +79,16 @@ module _ (b : Beginning) where
   abbrev AllAdded : List Call → Type 0
   AllAdded cs = (k : ℕ) (p : Object) → numbered (at b cs).packed k ≡ Some p → (i : ℕ) (l : Link) → nth p.real i ≡ Some l → Added b cs k i l
 
-  pend_by : (c : Call) (cs : List Call) → AllPending cs → (j : ℕ) (o : Object) → numbered (at b (◌∷◌ c cs)).opened j ≡ Some o → (i : ℕ) (l : Link) → nth o.real i ≡ Some l →
-      Kind c (answered b (◌∷◌ c cs)) (at b cs) (at b (◌∷◌ c cs)).opened j o → Pending (c ∷ cs) j i l
+  pend_by : (c : Call) (cs : List Call) → AllPending cs → (j : ℕ) (o : Object) → numbered (at b (c ∷ cs)).opened j ≡ Some o → (i : ℕ) (l : Link) → nth o.real i ≡ Some l →
+      Kind c (answered b (c ∷ cs)) (at b cs) (at b (c ∷ cs)).opened j o → Pending (c ∷ cs) j i l
   pend_by c cs all j o e i l h (was p f m) = pend_next c cs j i l (o, e, h) (all j p f i l (m i l h))
   pend_by c cs all j o e i l h (fresh z) = absurd (none_some l (subst (λ (x : List Link). nth x i ≡ Some l) z h))
   pend_by c cs all j o e i l h (linked p os k f g u m a) = elim (nth_more p.real k i l (subst (λ (x : List Link). nth x i ≡ Some l) m h)) [
     | inl v ↦ pend_next c cs j i l (o, e, h) (all j p (ap (λ (x : List Object). numbered x j) f ∙ numbered_at p os j (sym u)) i l v)
-    | inr v ↦ pend_new c cs j i p o os l f g u (m ∙ ap (λ (x : Link). p.real ++ (x ∷ [])) v.1) v.0 (subst (Adds c (answered b (◌∷◌ c cs)) p) v.1 a)
+    | inr v ↦ pend_new c cs j i p o os l f g u (m ∙ ap (λ (x : Link). p.real ++ (x ∷ [])) v.1) v.0 (subst (Adds c (answered b (c ∷ cs)) p) v.1 a)
   ]
 
-  add_next : (c : Call) (cs : List Call) (k i : ℕ) (l : Link) → HasLink (at b (◌∷◌ c cs)).packed k i l → Added b cs k i l → Added b (c ∷ cs) k i l
+  add_next : (c : Call) (cs : List Call) (k i : ℕ) (l : Link) → HasLink (at b (c ∷ cs)).packed k i l → Added b cs k i l → Added b (c ∷ cs) k i l
   add_next c cs k i l h t = record {
     before = t.before;
     range_from = t.range_from;
@@ -108,11 +108,11 @@ module _ (b : Beginning) where
     innermost = t.innermost;
     closed = t.closed;
     as_number = t.as_number;
-    stands = (subst (λ (x : List Call). HasLink (at b (◌∷◌ c x)).packed k i l) t.made h, t.stands);
+    stands = (subst (λ (x : List Call). HasLink (at b (c ∷ x)).packed k i l) t.made h, t.stands);
   }
 
-  add_new : (c : Call) (cs : List Call) (k i : ℕ) (l : Link) (o : Object) (os : List Object) → k ≡ count (at b cs) → (at b cs).opened ≡ o ∷ os → (at b (◌∷◌ c cs)).opened ≡ os → count (at b (◌∷◌ c cs)) ≡ suc k →
-      HasLink (at b (◌∷◌ c cs)).packed k i l → Pending cs (length os) i l → Added b (c ∷ cs) k i l
+  add_new : (c : Call) (cs : List Call) (k i : ℕ) (l : Link) (o : Object) (os : List Object) → k ≡ count (at b cs) → (at b cs).opened ≡ o ∷ os → (at b (c ∷ cs)).opened ≡ os → count (at b (c ∷ cs)) ≡ suc k →
+      HasLink (at b (c ∷ cs)).packed k i l → Pending cs (length os) i l → Added b (c ∷ cs) k i l
   add_new c cs k i l o os e f g h u t =
       let m = t.made in
       record {
@@ -132,13 +132,13 @@ module _ (b : Beginning) where
         long = t.long;
         kept = t.kept;
         innermost = subst (λ (x : List Call). depth (at b x) ≡ suc (length t.below)) m (ap length f ∙ ap suc (sym t.level));
-        closed = subst (λ (x : List Call). depth (at b (◌∷◌ c x)) ≡ length t.below) m (ap length g ∙ sym t.level);
-        as_number = (subst (λ (x : List Call). count (at b x) ≡ k) m (sym e), subst (λ (x : List Call). count (at b (◌∷◌ c x)) ≡ suc k) m h);
-        stands = subst (λ (x : List Call). HasLink (at b (◌∷◌ c x)).packed k i l) m u;
+        closed = subst (λ (x : List Call). depth (at b (c ∷ x)) ≡ length t.below) m (ap length g ∙ sym t.level);
+        as_number = (subst (λ (x : List Call). count (at b x) ≡ k) m (sym e), subst (λ (x : List Call). count (at b (c ∷ x)) ≡ suc k) m h);
+        stands = subst (λ (x : List Call). HasLink (at b (c ∷ x)).packed k i l) m u;
       }
 
-  add_by : (c : Call) (cs : List Call) → AllPending cs → AllAdded cs → (k : ℕ) (p : Object) → numbered (at b (◌∷◌ c cs)).packed k ≡ Some p → (i : ℕ) (l : Link) → nth p.real i ≡ Some l →
-      From (at b cs) (at b (◌∷◌ c cs)).opened (at b (◌∷◌ c cs)).packed k p → Added b (c ∷ cs) k i l
+  add_by : (c : Call) (cs : List Call) → AllPending cs → AllAdded cs → (k : ℕ) (p : Object) → numbered (at b (c ∷ cs)).packed k ≡ Some p → (i : ℕ) (l : Link) → nth p.real i ≡ Some l →
+      From (at b cs) (at b (c ∷ cs)).opened (at b (c ∷ cs)).packed k p → Added b (c ∷ cs) k i l
   add_by c cs pend all k p e i l h (stood q f r) = add_next c cs k i l (p, e, h) (all k q f i l (subst (λ (x : List Link). nth x i ≡ Some l) r h))
   add_by c cs pend all k p e i l h (closed o os f g u r n) = add_new c cs k i l o os f g u n (p, e, h)
       (pend (length os) o (ap (λ (x : List Object). numbered x (length os)) g ∙ numbered_here o os) i l (subst (λ (x : List Link). nth x i ≡ Some l) r h))
@@ -155,7 +155,7 @@ module _ (b : Beginning) where
   origins [] =
       let x = checked b.size b.slots b.cells b.register.capacity in
       ((λ j o e. absurd (none_open x b.size b.slots b.cells j o e)), (λ k p e. absurd (none_packed x b.size b.slots b.cells k p e)))
-  origins (◌∷◌ c cs) =
+  origins (c ∷ cs) =
       let ih = origins cs in
       let f = call_effect c (at b cs) (run b cs).register (run b cs).answers in
       ((λ j o e i l h. pend_by c cs ih.0 j o e i l h (effect_opens f j o e)), (λ k p e i l h. add_by c cs ih.0 ih.1 k p e i l h (effect_packs f k p e)))

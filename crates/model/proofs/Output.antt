@@ -20,7 +20,7 @@ use Rattle.model.proofs.Memory.{length_write, part_below, part_above}
 -- stacked objects fill the memory from the lowest on
 pub contents_drop : (n : ℕ) (s : State) (ps : List Object) → Stacked n ps → length s.memory ≡ n → contents s ps ≡ drop (lowest n ps) s.memory
 contents_drop n s [] st e = sym (drop_all n s.memory (omega arith))
-contents_drop n s (◌∷◌ p ps) st e =
+contents_drop n s (p ∷ ps) st e =
     let d : p.head + (p.tail - p.head) ≡ lowest n ps = omega (arith, st.0, st.1) in
     ap (λ (x : List ℕ). bytes_of s p ++ x) (contents_drop n s ps st.2 e ∙ (ap (λ (x : ℕ). drop x s.memory) (sym d) ∙ sym (drop-drop (p.tail - p.head) p.head s.memory)))
     ∙ take-append-drop (p.tail - p.head) (drop p.head s.memory)
@@ -32,7 +32,7 @@ one_placed f m = elim (eqb f.width 0) [ true ↦ m | false ↦ write m f.place (
 
 abbrev pub placed : List Field → List ℕ → List ℕ
 placed [] m = m
-placed (◌∷◌ f fs) m = placed fs (one_placed f m)
+placed (f ∷ fs) m = placed fs (one_placed f m)
 
 -- a field of any width holds its value and lies in memory
 abbrev pub Fit : ℕ → Field → Type 0
@@ -40,7 +40,7 @@ Fit n f = (f.width ≡ 0 → ⊥) → (f.value ≤ largest f.width f.signed) × 
 
 abbrev pub AllFit : ℕ → List Field → Type 0
 AllFit n [] = Unit {0}
-AllFit n (◌∷◌ f fs) = Fit n f × AllFit n fs
+AllFit n (f ∷ fs) = Fit n f × AllFit n fs
 
 record PlacedOne (f : Field) (s s' : State) : Type 0 where
   memory : s'.memory ≡ one_placed f s.memory
@@ -73,7 +73,7 @@ length_one f m fit = by_test (eqb f.width 0) _ _ (λ (x : List ℕ). length x �
 
 pub puts_placed : (fs : List Field) (s : State) → (put_fields fs s).flags ≡ none → Placed fs s (put_fields fs s)
 puts_placed [] s e = record { memory = refl; head = refl; tail = refl; clean = e; fits = tt }
-puts_placed (◌∷◌ f fs) s e =
+puts_placed (f ∷ fs) s e =
     let r = puts_placed fs (put_field f s) e in
     let o = put_placed f s r.clean in
     record {
@@ -88,24 +88,24 @@ puts_placed (◌∷◌ f fs) s e =
 
 pub placed_append : (xs ys : List Field) (m : List ℕ) → placed (xs ++ ys) m ≡ placed ys (placed xs m)
 placed_append [] ys m = refl
-placed_append (◌∷◌ x xs) ys m = placed_append xs ys (one_placed x m)
+placed_append (x ∷ xs) ys m = placed_append xs ys (one_placed x m)
 
 pub fit_append : (n : ℕ) (xs ys : List Field) → AllFit n (xs ++ ys) → AllFit n xs × AllFit n ys
 fit_append n [] ys a = (tt, a)
-fit_append n (◌∷◌ x xs) ys a = let q = fit_append n xs ys a.1 in ((a.0, q.0), q.1)
+fit_append n (x ∷ xs) ys a = let q = fit_append n xs ys a.1 in ((a.0, q.0), q.1)
 
 pub length_placed : (fs : List Field) (m : List ℕ) → AllFit (length m) fs → length (placed fs m) ≡ length m
 length_placed [] m a = refl
-length_placed (◌∷◌ f fs) m a = let e = length_one f m a.0 in length_placed fs (one_placed f m) (subst (λ (x : ℕ). AllFit x fs) (sym e) a.1) ∙ e
+length_placed (f ∷ fs) m a = let e = length_one f m a.0 in length_placed fs (one_placed f m) (subst (λ (x : ℕ). AllFit x fs) (sym e) a.1) ∙ e
 
 -- no field of the list meets the places from p to q
 abbrev pub Clear : ℕ → ℕ → List Field → Type 0
 Clear p q [] = Unit {0}
-Clear p q (◌∷◌ f fs) = ((f.width ≡ 0 → ⊥) → (q ≤ f.place) ⊎ (f.place + f.width ≤ p)) × Clear p q fs
+Clear p q (f ∷ fs) = ((f.width ≡ 0 → ⊥) → (q ≤ f.place) ⊎ (f.place + f.width ≤ p)) × Clear p q fs
 
 pub placed_outside : (fs : List Field) (m : List ℕ) (p q : ℕ) → AllFit (length m) fs → Clear p q fs → part (placed fs m) p q ≡ part m p q
 placed_outside [] m p q a c = refl
-placed_outside (◌∷◌ f fs) m p q a c =
+placed_outside (f ∷ fs) m p q a c =
     placed_outside fs (one_placed f m) p q (subst (λ (x : ℕ). AllFit x fs) (sym (length_one f m a.0)) a.1) c.1
     ∙ by_test (eqb f.width 0) _ _ (λ (x : List ℕ). part x p q ≡ part m p q) (λ e. refl)
     (λ e. let ne = eqb-false f.width 0 e in let l = (a.0 ne).1 in let z = length_big_endian f.width f.value in

@@ -33,7 +33,7 @@ opened_so s r k = by_test (idle s) _ _ (λ (x : Out (Option ObjIdx)). x.answer �
   where
     first : (os : List Object) → s.opened ≡ os → (close_first true os s r).answer ≡ Some k → (o : Object) × (os : List Object) × (s.opened ≡ o ∷ os)
     first [] e a = absurd (none_some k a)
-    first (◌∷◌ o os) e a = (o, os, e)
+    first (o ∷ os) e a = (o, os, e)
 
 not_end : PopPack true ≡ End → ⊥
 not_end e = let z : ◌≡◌ {A = ℕ} 0 1 = cc in omega arith
@@ -41,13 +41,13 @@ not_end e = let z : ◌≡◌ {A = ℕ} 0 1 = cc in omega arith
 not_strike : (h : ℕ) (k : ObjIdx) → PopPack true ≡ OwnerStrike h k → ⊥
 not_strike h k e = let z : ◌≡◌ {A = ℕ} 0 1 = cc in omega arith
 
-shares_entered : (b : Beginning) (cs : List Call) → LeftAlone b cs → (k : ℕ) → answered b (◌∷◌ (PopPack true) cs) ≡ Number (Some (index k)) → Entered (run b (◌∷◌ (PopPack true) cs)) k
+shares_entered : (b : Beginning) (cs : List Call) → LeftAlone b cs → (k : ℕ) → answered b (PopPack true ∷ cs) ≡ Number (Some (index k)) → Entered (run b (PopPack true ∷ cs)) k
 shares_entered b cs a k e =
     let s = at b cs in let r = (run b cs).register in
     let x = said b cs true k e in
     let o = opened_so s r (index k) x in
     let c = pop_closed (span b) s (run_sound b cs) r o.0 o.1 o.2 true k x in
-    let l : k < count (at b (◌∷◌ (PopPack true) cs)) = numbered_below (at b (◌∷◌ (PopPack true) cs)).packed k c.names.object c.names.named in
+    let l : k < count (at b (PopPack true ∷ cs)) = numbered_below (at b (PopPack true ∷ cs)).packed k c.names.object c.names.named in
     elim (shared_so b cs a.counted k o.0 o.1 o.2 e) [
       | inl w ↦ entered_stays b (PopPack true) cs ((run_called b (PopPack true) cs).only_end not_end) k w.0.entered (not_strike (object_hash s.memory w.0.entered.object) (index k)) l
       | inr w ↦ elim w.2 [ inl t ↦ t | inr f ↦ absurd (let u = f.entered in let y = a.empty in let z = a.untouched in omega arith) ]

@@ -78,21 +78,21 @@ pop_pack_good n s sound share r =
   where
     first : hard s.flags ≡ false → (os : List Object) → Tails n os → Good n s (close_first share os s r).state
     first h [] ts = (sound, refl, refl)
-    first h (◌∷◌ o os) ts = close_good n s sound h share o os ts.1 r
+    first h (o ∷ os) ts = close_good n s sound h share o os ts.1 r
 
 -- ---- rewinding
 
 pub discard_stacked : (m : List ℕ) (n t : ℕ) (ps : List Object) (p : Pool) (r : Pairs) → t ≤ n → Stacked n ps →
     Stacked n (discard m t ps p r).left × (t ≤ lowest n (discard m t ps p r).left)
 discard_stacked m n t [] p r l st = (tt, l)
-discard_stacked m n t (◌∷◌ o os) p r l st =
+discard_stacked m n t (o ∷ os) p r l st =
     by_test (ltb o.head t) _ _ (λ (x : Discarded). Stacked n x.left × (t ≤ lowest n x.left))
     (λ e. discard_stacked m n t os _ _ l st.2)
     (λ e. (st, ltb-false o.head t e))
 
-pub edge_lowest : (n : ℕ) (m : List ℕ) (ps : List Object) → length m ≡ n → (elim ps [ [] ↦ length m | ◌∷◌ p qs ↦ p.head ]) ≡ lowest n ps
+pub edge_lowest : (n : ℕ) (m : List ℕ) (ps : List Object) → length m ≡ n → (elim ps [ [] ↦ length m | p ∷ qs ↦ p.head ]) ≡ lowest n ps
 edge_lowest n m [] e = e
-edge_lowest n m (◌∷◌ p ps) e = refl
+edge_lowest n m (p ∷ ps) e = refl
 
 -- s may have had its flags and links put back: tail meets the lowest packed object
 module _ (n : ℕ) (s₀ s : State) (g : Good n s₀ s) (r : Pairs) (h t : ℕ) (l : t ≤ n) where
@@ -128,7 +128,7 @@ pop_discard_good n s sound r =
   where
     first : (os : List Object) → Tails n os → Good n s (discard_first os s r).state
     first [] t = (sound, refl, refl)
-    first (◌∷◌ o os) t = rewind_good n s (with_opened s os s.pool) (with_tails n s os s.pool sound t.1, refl, refl) r o.head o.tail t.0
+    first (o ∷ os) t = rewind_good n s (with_opened s os s.pool) (with_tails n s os s.pool sound t.1, refl, refl) r o.head o.tail t.0
 
 pub revert_good : (n : ℕ) (s : State) → SoundState n s → (p : Snapshot) (r : Pairs) → Good n s (revert_snapshot p s r).state
 revert_good n s sound p r =

@@ -106,7 +106,7 @@ counted_entered r h n c = counted_entering r h n c (entering r h n)
 
 abbrev without : ℕ → ℕ → List (ℕ × ℕ) → List (ℕ × ℕ)
 without h n [] = []
-without h n (◌∷◌ x xs) = elim (same_pair x.0 x.1 h n) [ true ↦ xs | false ↦ x ∷ without h n xs ]
+without h n (x ∷ xs) = elim (same_pair x.0 x.1 h n) [ true ↦ xs | false ↦ x ∷ without h n xs ]
 
 among_at : (xs : List (ℕ × ℕ)) (h n g m : ℕ) → same_pair h n g m ≡ true → among xs g m ≡ among xs h n
 among_at xs h n g m t = let p = same_pair_is h n g m t in ap (λ (x : ℕ). among xs x m) p.0 ∙ ap (among xs h) p.1
@@ -116,7 +116,7 @@ same_there h n g m x y t = let p = same_pair_is x y h n t in sym (ap (λ (z : �
 
 among_without : (h n : ℕ) (xs : List (ℕ × ℕ)) → distinct xs ≡ true → (g m : ℕ) → among (without h n xs) g m ≡ (among xs g m && not (same_pair h n g m))
 among_without h n [] d g m = refl
-among_without h n (◌∷◌ x xs) d g m =
+among_without h n (x ∷ xs) d g m =
     let q = and_parts (not (among xs x.0 x.1)) (distinct xs) d in
     by_test (same_pair x.0 x.1 h n) _ _ (λ (ys : List (ℕ × ℕ)). among ys g m ≡ ((same_pair x.0 x.1 g m || among xs g m) && not (same_pair h n g m)))
     (λ t. let e = same_there h n g m x.0 x.1 t in elim (cases_Bool (same_pair h n g m)) [
@@ -136,7 +136,7 @@ among_without h n (◌∷◌ x xs) d g m =
 
 distinct_without : (h n : ℕ) (xs : List (ℕ × ℕ)) → distinct xs ≡ true → distinct (without h n xs) ≡ true
 distinct_without h n [] d = refl
-distinct_without h n (◌∷◌ x xs) d =
+distinct_without h n (x ∷ xs) d =
     let q = and_parts (not (among xs x.0 x.1)) (distinct xs) d in
     by_test (same_pair x.0 x.1 h n) _ _ (λ (ys : List (ℕ × ℕ)). distinct ys ≡ true) (λ t. q.1)
     (λ t. and_from (not (among (without h n xs) x.0 x.1)) (distinct (without h n xs))
@@ -145,7 +145,7 @@ distinct_without h n (◌∷◌ x xs) d =
 -- one fewer if the pair is there
 length_without : (h n : ℕ) (xs : List (ℕ × ℕ)) → (among xs h n ≡ true → suc (length (without h n xs)) ≡ length xs) × (among xs h n ≡ false → length (without h n xs) ≡ length xs)
 length_without h n [] = ((λ e. absurd (both_ways false refl e)), λ e. refl)
-length_without h n (◌∷◌ x xs) = by_test (same_pair x.0 x.1 h n) _ _
+length_without h n (x ∷ xs) = by_test (same_pair x.0 x.1 h n) _ _
     (λ (ys : List (ℕ × ℕ)). ((same_pair x.0 x.1 h n || among xs h n) ≡ true → suc (length ys) ≡ suc (length xs)) × ((same_pair x.0 x.1 h n || among xs h n) ≡ false → length ys ≡ suc (length xs)))
     (λ t. ((λ e. refl), λ e. absurd (both_ways (same_pair x.0 x.1 h n) (or_parts (same_pair x.0 x.1 h n) (among xs h n) e).0 t)))
     (λ t. let ih = length_without h n xs in (
@@ -171,4 +171,4 @@ held_counts r h n c e = some c.listed (sym (c.just h n) ∙ e) c.long
   where
     some : (xs : List (ℕ × ℕ)) → among xs h n ≡ true → r.count ≡ length xs → 0 < r.count
     some [] a l = absurd (both_ways false refl a)
-    some (◌∷◌ x xs) a l = omega arith
+    some (x ∷ xs) a l = omega arith

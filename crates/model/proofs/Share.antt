@@ -41,11 +41,11 @@ still_bytes n s s' d kept k p e t =
     (let l : lowest n s.packed ≤ p.head = numbered_above n s.packed d.stacked k p e in omega (arith, d.under)) kept
 
 module _ (b : Beginning) where
-  run_still : (c : Call) (cs : List Call) (k : ℕ) (p : Object) → numbered (at b cs).packed k ≡ Some p → k < count (at b (◌∷◌ c cs)) → Still (at b (◌∷◌ c cs)).packed k p
+  run_still : (c : Call) (cs : List Call) (k : ℕ) (p : Object) → numbered (at b cs).packed k ≡ Some p → k < count (at b (c ∷ cs)) → Still (at b (c ∷ cs)).packed k p
   run_still c cs k p e l = effect_persist (call_effect c (at b cs) (run b cs).register (run b cs).answers) k p e l
 
-  names_step : (c : Call) (cs : List Call) (k : ℕ) (bs : List ℕ) (ls : List Link) → k < count (at b (◌∷◌ c cs)) → (at b (◌∷◌ c cs)).ended ≡ false →
-      Names (at b cs) k bs ls → Names (at b (◌∷◌ c cs)) k bs ls
+  names_step : (c : Call) (cs : List Call) (k : ℕ) (bs : List ℕ) (ls : List Link) → k < count (at b (c ∷ cs)) → (at b (c ∷ cs)).ended ≡ false →
+      Names (at b cs) k bs ls → Names (at b (c ∷ cs)) k bs ls
   names_step c cs k bs ls l e w =
       let called = run_called b c cs in
       let t = run_still c cs k w.object w.named l in
@@ -53,24 +53,24 @@ module _ (b : Beginning) where
         object = t.object;
         named = t.named;
         links = t.real ∙ w.links;
-        bytes = still_bytes (span b) (at b cs) (at b (◌∷◌ c cs)) (run_sound b cs) (called.kept (e ∙ sym (called.stays e))) k w.object w.named t ∙ w.bytes;
+        bytes = still_bytes (span b) (at b cs) (at b (c ∷ cs)) (run_sound b cs) (called.kept (e ∙ sym (called.stays e))) k w.object w.named t ∙ w.bytes;
       }
 
   names_later : (since before : List Call) (k : ℕ) (bs : List ℕ) (ls : List Link) → Through (λ ds. (k < count (at b ds)) × ((at b ds).ended ≡ false)) since before →
       Names (at b before) k bs ls → Names (at b (since ++ before)) k bs ls
   names_later [] before k bs ls t w = w
-  names_later (◌∷◌ c since) before k bs ls t w = names_step c (since ++ before) k bs ls t.0.0 t.0.1 (names_later since before k bs ls t.1 w)
+  names_later (c ∷ since) before k bs ls t w = names_step c (since ++ before) k bs ls t.0.0 t.0.1 (names_later since before k bs ls t.1 w)
 
-  pub entered_stays : (c : Call) (cs : List Call) → (at b (◌∷◌ c cs)).ended ≡ (at b cs).ended → (k : ℕ) (t : Entered (run b cs) k) →
-      c ≢ OwnerStrike (object_hash (at b cs).memory t.object) (index k) → k < count (at b (◌∷◌ c cs)) → Entered (run b (◌∷◌ c cs)) k
+  pub entered_stays : (c : Call) (cs : List Call) → (at b (c ∷ cs)).ended ≡ (at b cs).ended → (k : ℕ) (t : Entered (run b cs) k) →
+      c ≢ OwnerStrike (object_hash (at b cs).memory t.object) (index k) → k < count (at b (c ∷ cs)) → Entered (run b (c ∷ cs)) k
   entered_stays c cs same k t ne l =
       let q = run_still c cs k t.object t.named l in
-      let f = still_bytes (span b) (at b cs) (at b (◌∷◌ c cs)) (run_sound b cs) ((run_called b c cs).kept same) k t.object t.named q in
+      let f = still_bytes (span b) (at b cs) (at b (c ∷ cs)) (run_sound b cs) ((run_called b c cs).kept same) k t.object t.named q in
       record {
         object = q.object;
         named = q.named;
-        entered = subst (λ (x : List Link). (run b (◌∷◌ c cs)).register.has (hash (bytes_of (at b (◌∷◌ c cs)) q.object) x) k ≡ true) (sym q.real)
-            (subst (λ (x : List ℕ). (run b (◌∷◌ c cs)).register.has (hash x t.object.real) k ≡ true) (sym f)
+        entered = subst (λ (x : List Link). (run b (c ∷ cs)).register.has (hash (bytes_of (at b (c ∷ cs)) q.object) x) k ≡ true) (sym q.real)
+            (subst (λ (x : List ℕ). (run b (c ∷ cs)).register.has (hash x t.object.real) k ≡ true) (sym f)
             (effect_pairs (call_effect c (at b cs) (run b cs).register (run b cs).answers) (object_hash (at b cs).memory t.object) k ne l t.entered));
       }
 
@@ -177,7 +177,7 @@ module _ (s : State) (r : Pairs) where
     where
       first : (os : List Object) → (close_first false os s r).answer ≡ Some (index k) → k ≡ length s.packed
       first [] = λ a. absurd (none_some (index k) a)
-      first (◌∷◌ o os) = by_test (ltb s.head o.head) _ _ (λ (x : Out (Option ObjIdx)). x.answer ≡ Some (index k) → k ≡ length s.packed) (λ t a. absurd (none_some (index k) a))
+      first (o ∷ os) = by_test (ltb s.head o.head) _ _ (λ (x : Out (Option ObjIdx)). x.answer ≡ Some (index k) → k ≡ length s.packed) (λ t a. absurd (none_some (index k) a))
           (λ over. by_test (eqb s.head o.head) _ _ (λ (x : Out (Option ObjIdx)). x.answer ≡ Some (index k) → k ≡ length s.packed)
           (λ t. by_test (linkless o) _ _ (λ (x : Out (Option ObjIdx)). x.answer ≡ Some (index k) → k ≡ length s.packed) (λ t a. absurd (none_some (index k) a)) (λ t a. absurd (none_some (index k) a)))
           (λ t a. sym (index_inj (length s.packed) k a)))
@@ -205,7 +205,7 @@ module _ (b : Beginning) (cs : List Call) where
   abbrev reg : Pairs
   reg = (run b cs).register
 
-  pub said : (share : Bool) (k : ℕ) → answered b (◌∷◌ (PopPack share) cs) ≡ Number (Some (index k)) → (pop_pack share now reg).answer ≡ Some (index k)
+  pub said : (share : Bool) (k : ℕ) → answered b (PopPack share ∷ cs) ≡ Number (Some (index k)) → (pop_pack share now reg).answer ≡ Some (index k)
   said share k a = number_inj (pop_pack share now reg).answer (Some (index k)) a
 
   pub twin_parts : (j : ℕ) (bs : List ℕ) (ls : List Link) → Twin (run b cs) j bs ls → (q : Object) × (numbered now.packed j ≡ Some q) × (bytes_of now q ≡ bs) × (q.real ≡ ls) × (reg.has (hash bs ls) j ≡ true)
@@ -230,7 +230,7 @@ module _ (b : Beginning) (cs : List Call) where
       let t = run_tallied b ok cs going in let c = t.capacity in let l = t.few in let u = room_left b cs deep in
       record { full = f; entered = omega arith; enough = omega arith }
 
-  pub shared_so : Counted b.register → (k : ℕ) (o : Object) (os : List Object) → now.opened ≡ o ∷ os → answered b (◌∷◌ (PopPack true) cs) ≡ Number (Some (index k)) → Shared b cs k (own now o) o.real
+  pub shared_so : Counted b.register → (k : ℕ) (o : Object) (os : List Object) → now.opened ≡ o ∷ os → answered b (PopPack true ∷ cs) ≡ Number (Some (index k)) → Shared b cs k (own now o) o.real
   shared_so ok k o os e a =
       let c = pop_closed (span b) now (run_sound b cs) reg o os e true k (said true k a) in
       elim (c.sought refl) [
@@ -245,8 +245,8 @@ module _ (b : Beginning) (cs : List Call) where
             | inl h ↦ inl (record {
               object = c.names.object;
               named = c.names.named;
-              entered = subst (λ (z : List ℕ). (run b (◌∷◌ (PopPack true) cs)).register.has (hash z c.names.object.real) k ≡ true) (sym c.names.bytes)
-                  (subst (λ (z : List Link). (run b (◌∷◌ (PopPack true) cs)).register.has (hash (own now o) z) k ≡ true) (sym c.names.links) h);
+              entered = subst (λ (z : List ℕ). (run b (PopPack true ∷ cs)).register.has (hash z c.names.object.real) k ≡ true) (sym c.names.bytes)
+                  (subst (λ (z : List Link). (run b (PopPack true ∷ cs)).register.has (hash (own now o) z) k ≡ true) (sym c.names.links) h);
             })
             | inr f ↦ inr (filled ok (unended now reg true (index k) (said true k a)) (let z = ap length e in omega arith) f)
           ],

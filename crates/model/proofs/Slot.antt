@@ -31,21 +31,21 @@ pool xs used slots linked cells = record { released = xs; used = used; slots = s
 taken : (n : ℕ) (xs : List PoolIdx) (used slots linked cells : ℕ) → n + length xs ≤ used → used ≤ slots → slot_free (pool xs used slots linked cells) ≡ true →
     (n + length (slot_taken (pool xs used slots linked cells)).released < (slot_taken (pool xs used slots linked cells)).used) × ((slot_taken (pool xs used slots linked cells)).used ≤ slots) × ((slot_taken (pool xs used slots linked cells)).slots ≡ slots)
 taken n [] used slots linked cells l u f = (omega arith, ltb-true used slots f, refl)
-taken n (◌∷◌ x xs) used slots linked cells l u f = (omega arith, u, refl)
+taken n (x ∷ xs) used slots linked cells l u f = (omega arith, u, refl)
 
 -- ---- discarding
 
 discard_housed : (m : List ℕ) (t : ℕ) (ps : List Object) (p : Pool) (r : Pairs) →
     (length (discard m t ps p r).left + length (discard m t ps p r).pool.released ≡ length ps + length p.released) × ((discard m t ps p r).pool.used ≡ p.used) × ((discard m t ps p r).pool.slots ≡ p.slots)
 discard_housed m t [] p r = (refl, refl, refl)
-discard_housed m t (◌∷◌ o os) p r = by_test (ltb o.head t) _ _
+discard_housed m t (o ∷ os) p r = by_test (ltb o.head t) _ _
     (λ (x : Discarded). (length x.left + length x.pool.released ≡ suc (length os) + length p.released) × (x.pool.used ≡ p.used) × (x.pool.slots ≡ p.slots))
     (λ e. let ih = discard_housed m t os (slot_back p o.slot (links_of o)) (struck r (object_hash m o) (length os)) in (ih.0 ∙ omega arith, ih.1, ih.2))
     (λ e. (refl, refl, refl))
 
 pub cut_length : (a b : ℕ) (os : List Object) → length (cut_first a b os) ≡ length os
 cut_length a b [] = refl
-cut_length a b (◌∷◌ o os) = refl
+cut_length a b (o ∷ os) = refl
 
 -- ---- over a call
 
@@ -84,7 +84,7 @@ slots_of b = (at b []).pool.slots
 
 pub run_housed : (b : Beginning) (cs : List Call) → Housed (slots_of b) (at b cs).opened (at b cs).packed (at b cs).pool
 run_housed b [] = begun_housed (checked b.size b.slots b.cells b.register.capacity) b.size b.slots b.cells
-run_housed b (◌∷◌ c cs) = effect_housed (call_effect c (at b cs) (run b cs).register (run b cs).answers) (slots_of b) (run_housed b cs)
+run_housed b (c ∷ cs) = effect_housed (call_effect c (at b cs) (run b cs).register (run b cs).answers) (slots_of b) (run_housed b cs)
 
 -- the check before `new` sees to it that the register has room for as many pairs as there are slots
 pub slots_fit : (b : Beginning) → slots_of b ≤ b.register.capacity

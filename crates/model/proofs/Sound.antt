@@ -1,6 +1,6 @@
 -- Packed objects lie one against the other up to the end of memory, and what a call but the ending writes lies below them.
 use Rattle.std.proofs.Common.{◌≡◌, ℕ, ◌+◌, ◌-◌, ◌≤◌, Bool, true, false, eqb, ltb, ◌⊎◌, List, [], ◌∷◌, length, drop, replicate, Err, Option, Result, unwrap_or, sym, refl, ◌∙◌, subst, inl, inr, arith}
-use lib.ListN.{length-replicate}
+use Rattle.std.proofs.lemmas.List.{length-replicate}
 use Rattle.cursor.specs.declared.flags.SerializeErrorFlags.{SerializeErrorFlags}
 use Rattle.cursor.specs.Flags.{hard}
 use Rattle.link.specs.declared.Link.{Link}
@@ -22,7 +22,7 @@ use Rattle.model.proofs.Memory.{length_write, drop_write}
 -- the tails that open objects recorded lie in memory
 abbrev pub Tails : ℕ → List Object → Type 0
 Tails n [] = Unit {0}
-Tails n (◌∷◌ o os) = (o.tail ≤ n) × Tails n os
+Tails n (o ∷ os) = (o.tail ≤ n) × Tails n os
 
 -- by parts of the state, so that a call that touches none of them needs no proof
 pub record Sound (n : ℕ) (m : List ℕ) (h t : ℕ) (f : SerializeErrorFlags) (ps os : List Object) : Type 0 where
@@ -46,7 +46,7 @@ Good n s₀ s = SoundState n s × Kept s₀ s × (s.ended ≡ s₀.ended)
 
 pub lowest_le : (n : ℕ) (ps : List Object) → Stacked n ps → lowest n ps ≤ n
 lowest_le n [] st = omega arith
-lowest_le n (◌∷◌ p ps) st = let ih : lowest n ps ≤ n = lowest_le n ps st.2 in omega (arith, st.0, st.1)
+lowest_le n (p ∷ ps) st = let ih : lowest n ps ≤ n = lowest_le n ps st.2 in omega (arith, st.0, st.1)
 
 pub under_end : (n : ℕ) (s : State) → SoundState n s → s.tail ≤ n
 under_end n s d = let l : lowest n s.packed ≤ n = lowest_le n s.packed d.stacked in omega (arith, d.under)
@@ -62,25 +62,25 @@ with_tails n s os p d ts = record { sized = d.sized; below = d.below; stacked = 
 
 extend_tails : (n : ℕ) (l : Link) (os : List Object) → Tails n os → Tails n (extend l os)
 extend_tails n l [] ts = ts
-extend_tails n l (◌∷◌ o os) ts = ts
+extend_tails n l (o ∷ os) ts = ts
 
 virtual_tails : (n : ℕ) (k : ObjIdx) (os : List Object) → Tails n os → Tails n (extend_virtual k os)
 virtual_tails n k [] ts = ts
-virtual_tails n k (◌∷◌ o os) ts = ts
+virtual_tails n k (o ∷ os) ts = ts
 
 pub cut_tails : (n a b : ℕ) (os : List Object) → Tails n os → Tails n (cut_first a b os)
 cut_tails n a b [] ts = ts
-cut_tails n a b (◌∷◌ o os) ts = ts
+cut_tails n a b (o ∷ os) ts = ts
 
 -- ---- virtual links lent to a packed object
 
 pub lend_lowest : (n : ℕ) (vs : List Link) (k : ℕ) (ps : List Object) → lowest n (lend vs k ps) ≡ lowest n ps
 lend_lowest n vs k [] = refl
-lend_lowest n vs k (◌∷◌ p ps) = by_test (eqb (length ps) k) _ _ (λ x. lowest n x ≡ p.head) (λ e. refl) (λ e. refl)
+lend_lowest n vs k (p ∷ ps) = by_test (eqb (length ps) k) _ _ (λ x. lowest n x ≡ p.head) (λ e. refl) (λ e. refl)
 
 pub lend_stacked : (n : ℕ) (vs : List Link) (k : ℕ) (ps : List Object) → Stacked n ps → Stacked n (lend vs k ps)
 lend_stacked n vs k [] st = st
-lend_stacked n vs k (◌∷◌ p ps) st = by_test (eqb (length ps) k) _ _ (Stacked n) (λ e. st) (λ e. (st.0, st.1 ∙ sym (lend_lowest n vs k ps), lend_stacked n vs k ps st.2))
+lend_stacked n vs k (p ∷ ps) st = by_test (eqb (length ps) k) _ _ (Stacked n) (λ e. st) (λ e. (st.0, st.1 ∙ sym (lend_lowest n vs k ps), lend_stacked n vs k ps st.2))
 
 ordering_good : (n : ℕ) (s₀ s : State) (k : ObjIdx) (l : Link) → Good n s₀ s → Good n s₀ (ordering k l s)
 ordering_good n s₀ s k l g =
@@ -99,7 +99,7 @@ ordering_good n s₀ s k l g =
 
 repacking_good : (n : ℕ) (s₀ : State) (k : ObjIdx) (ls : List Link) (s : State) → Good n s₀ s → Good n s₀ (repacking k ls s).0
 repacking_good n s₀ k [] s g = g
-repacking_good n s₀ k (◌∷◌ l ls) s g = by_test (eqb l.objidx.0 k.0) _ _ (λ (x : State × Result (Unit {0}) SerializeErrorFlags). Good n s₀ x.0)
+repacking_good n s₀ k (l ∷ ls) s g = by_test (eqb l.objidx.0 k.0) _ _ (λ (x : State × Result (Unit {0}) SerializeErrorFlags). Good n s₀ x.0)
     (λ e. repacking_good n s₀ k ls s g)
     (λ e. refuse_by (λ (x : State × Result (Unit {0}) SerializeErrorFlags). Good n s₀ x.0) (child_tests l s) Err s (λ s. repacking k ls (ordering k l s)) (λ f. flag_good n s₀ s f g) (λ no. repacking_good n s₀ k ls (ordering k l s) (ordering_good n s₀ s k l g)))
 

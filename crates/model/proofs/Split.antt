@@ -8,7 +8,7 @@ use Rattle.model.specs.Declining.{refuse, guarded}
 -- no test of the list holds
 abbrev pub NoneHold : List (Bool × SerializeErrorFlags) → Type 0
 NoneHold [] = Unit {0}
-NoneHold (◌∷◌ t ts) = (t.0 ≡ false) × NoneHold ts
+NoneHold (t ∷ ts) = (t.0 ≡ false) × NoneHold ts
 
 pub by_test : {A : Type 0} (b : Bool) (x y : A) (P : A → Type 0) → (b ≡ true → P x) → (b ≡ false → P y) → P (elim b [ true ↦ x | false ↦ y ])
 by_test true x y P p q = p refl
@@ -24,7 +24,7 @@ if_false {A} b x y e = ap (λ (t : Bool). elim t as (λ t. A) [ true ↦ x | fal
 pub refuse_by : {A : Type 0} (P : State × A → Type 0) (ts : List (Bool × SerializeErrorFlags)) (e : SerializeErrorFlags → A) (s : State) (go : State → State × A) →
     ((f : SerializeErrorFlags) → P (flag s f, e (joined s.flags f))) → (NoneHold ts → P (go s)) → P (refuse ts e s go)
 refuse_by P [] e s go d q = q tt
-refuse_by P (◌∷◌ t ts) e s go d q =
+refuse_by P (t ∷ ts) e s go d q =
     by_test t.0 (flag s t.1, e (joined s.flags t.1)) (refuse ts e s go) P (λ h. d t.1) (λ h. refuse_by P ts e s go d (λ n. q (h, n)))
 
 pub guarded_by : {A : Type 0} (P : State × A → Type 0) (tests : State → List (Bool × SerializeErrorFlags)) (e : SerializeErrorFlags → A) (go : State → State × A) (s : State) →

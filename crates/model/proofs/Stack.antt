@@ -1,6 +1,6 @@
 -- The law's first part: where packed objects lie, after every run.
 use Rattle.std.proofs.Common.{◌≡◌, ℕ, ◌≤◌, false, eqb, ◌≢◌, List, [], ◌∷◌, length, drop, replicate, Some, None, Option, sym, refl, ap, ◌∙◌, inr, le_of_eq, arith}
-use lib.ListN.{length-replicate}
+use Rattle.std.proofs.lemmas.List.{length-replicate}
 use Rattle.register.specs.Pairs.{Pairs}
 use Rattle.model.specs.declared.limit.Limit.{Limit}
 use Rattle.model.specs.declared.snapshot.Snapshot.{Snapshot}
@@ -61,15 +61,15 @@ begun_sound (Some l) size slots cells = record { sized = refl; below = omega ari
 
 pub run_sound : (b : Beginning) (cs : List Call) → SoundState (span b) (at b cs)
 run_sound b [] = begun_sound (checked b.size b.slots b.cells b.register.capacity) b.size b.slots b.cells
-run_sound b (◌∷◌ c cs) = (call_good (span b) c (at b cs) (run_sound b cs) (run b cs).register (run b cs).answers).sound
+run_sound b (c ∷ cs) = (call_good (span b) c (at b cs) (run_sound b cs) (run b cs).register (run b cs).answers).sound
 
-pub run_called : (b : Beginning) (c : Call) (cs : List Call) → Called (span b) c (at b cs) (at b (◌∷◌ c cs))
+pub run_called : (b : Beginning) (c : Call) (cs : List Call) → Called (span b) c (at b cs) (at b (c ∷ cs))
 run_called b c cs = call_good (span b) c (at b cs) (run_sound b cs) (run b cs).register (run b cs).answers
 
 -- a packed object lies at or above the lowest
 pub numbered_above : (n : ℕ) (ps : List Object) → Stacked n ps → (k : ℕ) (p : Object) → numbered ps k ≡ Some p → lowest n ps ≤ p.head
 numbered_above n [] st k p e = absurd (none_some p e)
-numbered_above n (◌∷◌ q qs) st k p e = by_test (eqb (length qs) k) (Some q) (numbered qs k) (λ (x : Option Object). x ≡ Some p → q.head ≤ p.head)
+numbered_above n (q ∷ qs) st k p e = by_test (eqb (length qs) k) (Some q) (numbered qs k) (λ (x : Option Object). x ≡ Some p → q.head ≤ p.head)
     (λ t f. let g : q ≡ p = some_inj q p f in rw g (omega arith))
     (λ t f. let l : lowest n qs ≤ p.head = numbered_above n qs st.2 k p f in omega (arith, st.0, st.1)) e
 
@@ -83,7 +83,7 @@ law_a b cs =
       meets = d.meets;
       ending = λ c ne. (run_called b c cs).only_end ne;
       unwritten = λ c same k p e.
-          part_kept (at b cs).memory (at b (◌∷◌ c cs)).memory (at b cs).tail p.head p.tail
+          part_kept (at b cs).memory (at b (c ∷ cs)).memory (at b cs).tail p.head p.tail
           (let l : lowest (span b) (at b cs).packed ≤ p.head = numbered_above (span b) (at b cs).packed d.stacked k p e in omega (arith, d.under))
           ((run_called b c cs).kept same);
     }

@@ -1,6 +1,6 @@
 -- Hard flags never go away, and an ended serializer does not change.
 use Rattle.std.proofs.Common.{◌≡◌, Bool, true, false, cond, not, ◌||◌, eqb, ltb, List, [], ◌∷◌, ◌++◌, length, Some, None, Err, Option, Result, unwrap_or, sym, refl, ap, ◌∙◌}
-use lib.Bits.{or_zero_r}
+use Rattle.std.specs.Int.Bits.{or_zero_r}
 use Rattle.cursor.specs.declared.flags.SerializeErrorFlags.{SerializeErrorFlags}
 use Rattle.cursor.specs.Flags.{flags, none, other, offset_overflow, joined, same_flags, contains, hard}
 use Rattle.link.specs.declared.Link.{Link}
@@ -37,7 +37,7 @@ guards {A} s tests e go q = guarded_by (λ (x : State × A). More s x.0.flags) t
 
 repacking_more : (k : ObjIdx) (ls : List Link) (s : State) → More s (repacking k ls s).0.flags
 repacking_more k [] s = as_is s s.flags refl
-repacking_more k (◌∷◌ l ls) s = by_test (eqb l.objidx.0 k.0) _ _ (λ (x : State × Result (Unit {0}) SerializeErrorFlags). More s x.0.flags)
+repacking_more k (l ∷ ls) s = by_test (eqb l.objidx.0 k.0) _ _ (λ (x : State × Result (Unit {0}) SerializeErrorFlags). More s x.0.flags)
     (λ e. repacking_more k ls s)
     (λ e. refuse_by (λ (x : State × Result (Unit {0}) SerializeErrorFlags). More s x.0.flags) (child_tests l s) Err s (λ x. repacking k ls (ordering k l x)) (λ f. (f, refl)) (λ no. repacking_more k ls (ordering k l s)))
 
@@ -126,18 +126,18 @@ call_ended (OwnerStrike g k) s r an h = refl
 -- ---- over a run
 
 module _ (b : Beginning) where
-  more : (c : Call) (cs : List Call) → hard (at b cs).flags ≡ true → More (at b cs) (at b (◌∷◌ c cs)).flags
+  more : (c : Call) (cs : List Call) → hard (at b cs).flags ≡ true → More (at b cs) (at b (c ∷ cs)).flags
   more c cs h = call_more c (at b cs) (run b cs).register (run b cs).answers h
 
   later_hard : (since cs : List Call) → hard (at b cs).flags ≡ true → hard (at b (since ++ cs)).flags ≡ true
   later_hard [] cs h = h
-  later_hard (◌∷◌ c since) cs h =
+  later_hard (c ∷ since) cs h =
       let ih = later_hard since cs h in let m = more c (since ++ cs) ih in
       ap hard m.1 ∙ hard_joined (at b (since ++ cs)).flags m.0 ih
 
   later_ended : (since cs : List Call) → (at b cs).ended ≡ true → at b (since ++ cs) ≡ at b cs
   later_ended [] cs h = refl
-  later_ended (◌∷◌ c since) cs h =
+  later_ended (c ∷ since) cs h =
       let ih = later_ended since cs h in let ds = since ++ cs in
       call_ended c (at b ds) (run b ds).register (run b ds).answers (ap (λ (x : State). x.ended) ih ∙ h) ∙ ih
 

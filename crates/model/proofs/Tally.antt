@@ -28,7 +28,7 @@ one b = cond b 1 0
 
 abbrev tally : List ℕ → Pairs → List Object → ℕ
 tally m r [] = 0
-tally m r (◌∷◌ p ps) = one (r.has (object_hash m p) (length ps)) + tally m r ps
+tally m r (p ∷ ps) = one (r.has (object_hash m p) (length ps)) + tally m r ps
 
 one_le : (b : Bool) → one b ≤ 1
 one_le true = omega arith
@@ -40,16 +40,16 @@ one_mono false b f = omega arith
 
 tally_le : (m : List ℕ) (r : Pairs) (ps : List Object) → tally m r ps ≤ length ps
 tally_le m r [] = omega arith
-tally_le m r (◌∷◌ p ps) = let a = one_le (r.has (object_hash m p) (length ps)) in let b = tally_le m r ps in omega arith
+tally_le m r (p ∷ ps) = let a = one_le (r.has (object_hash m p) (length ps)) in let b = tally_le m r ps in omega arith
 
 tally_mono : (m : List ℕ) (r r' : Pairs) (ps : List Object) → ((h k : ℕ) → r.has h k ≡ true → r'.has h k ≡ true) → tally m r ps ≤ tally m r' ps
 tally_mono m r r' [] f = omega arith
-tally_mono m r r' (◌∷◌ p ps) f = let a = one_mono _ _ (f (object_hash m p) (length ps)) in let b = tally_mono m r r' ps f in omega arith
+tally_mono m r r' (p ∷ ps) f = let a = one_mono _ _ (f (object_hash m p) (length ps)) in let b = tally_mono m r r' ps f in omega arith
 
 -- bytes that are kept hash alike
 tally_kept : (n : ℕ) (m m' : List ℕ) (t : ℕ) (r : Pairs) (ps : List Object) → Stacked n ps → t ≤ lowest n ps → drop t m' ≡ drop t m → tally m' r ps ≡ tally m r ps
 tally_kept n m m' t r [] st l e = refl
-tally_kept n m m' t r (◌∷◌ p ps) st l e =
+tally_kept n m m' t r (p ∷ ps) st l e =
     let a = part_kept m m' t p.head p.tail l e in
     let b = tally_kept n m m' t r ps st.2 (omega (arith, st.0, st.1)) e in
     ap (λ (x : List ℕ). one (r.has (hash x p.real) (length ps)) + tally m' r ps) a ∙ ap (λ (x : ℕ). one (r.has (object_hash m p) (length ps)) + x) b
@@ -57,9 +57,9 @@ tally_kept n m m' t r (◌∷◌ p ps) st l e =
 -- virtual links are not hashed
 tally_relent : (m : List ℕ) (r : Pairs) (ps qs : List Object) → Relent ps qs → tally m r qs ≡ tally m r ps
 tally_relent m r [] [] t = refl
-tally_relent m r [] (◌∷◌ q qs) t = absurd t
-tally_relent m r (◌∷◌ p ps) [] t = absurd t
-tally_relent m r (◌∷◌ p ps) (◌∷◌ q qs) t =
+tally_relent m r [] (q ∷ qs) t = absurd t
+tally_relent m r (p ∷ ps) [] t = absurd t
+tally_relent m r (p ∷ ps) (q ∷ qs) t =
     let a = t.0 in
     let e : object_hash m q ≡ object_hash m p = ap (λ (x : ℕ). hash (part m x q.tail) q.real) a.head ∙ (ap (λ (x : ℕ). hash (part m p.head x) q.real) a.tail ∙ ap (hash (part m p.head p.tail)) a.real) in
     ap (λ (x : ℕ). one (r.has x (length qs)) + tally m r qs) e ∙ (ap (λ (x : ℕ). one (r.has (object_hash m p) x) + tally m r qs) (relent_length ps qs t.1) ∙ ap (λ (x : ℕ). one (r.has (object_hash m p) (length ps)) + x) (tally_relent m r ps qs t.1))
@@ -68,13 +68,13 @@ tally_relent m r (◌∷◌ p ps) (◌∷◌ q qs) t =
 
 tally_strike : (m : List ℕ) (r : Pairs) (h n : ℕ) (ps : List Object) → length ps ≤ n → tally m (struck r h n) ps ≡ tally m r ps
 tally_strike m r h n [] l = refl
-tally_strike m r h n (◌∷◌ p ps) l =
+tally_strike m r h n (p ∷ ps) l =
     ap (λ (b : Bool). one b + tally m (struck r h n) ps) (has_struck r h n (object_hash m p) (length ps) (other_pair h n (object_hash m p) (length ps) (λ z. omega arith)))
     ∙ ap (λ (x : ℕ). one (r.has (object_hash m p) (length ps)) + x) (tally_strike m r h n ps (omega arith))
 
 tally_struck : (m : List ℕ) (r : Pairs) (h n : ℕ) (ps : List Object) → tally m r ps ≤ tally m (struck r h n) ps + 1
 tally_struck m r h n [] = omega arith
-tally_struck m r h n (◌∷◌ p ps) = elim (cases_Bool (eqb (length ps) n)) [
+tally_struck m r h n (p ∷ ps) = elim (cases_Bool (eqb (length ps) n)) [
   | inl e ↦ let a = tally_strike m r h n ps (let z = eqb-true (length ps) n e in omega arith) in let b = one_le (r.has (object_hash m p) (length ps)) in omega arith
   | inr e ↦ let a : one ((struck r h n).has (object_hash m p) (length ps)) ≡ one (r.has (object_hash m p) (length ps)) = ap one (has_struck r h n (object_hash m p) (length ps) (other_pair h n (object_hash m p) (length ps) (eqb-false (length ps) n e))) in
       let b = tally_struck m r h n ps in omega arith
@@ -99,7 +99,7 @@ struck_gain m r h n ps c = elim (cases_Bool (r.has h n)) [
 discard_gain : (m : List ℕ) (t : ℕ) (ps : List Object) (p : Pool) (r : Pairs) → Counted r →
     ((discard m t ps p r).register.count + tally m r ps ≤ r.count + tally m (discard m t ps p r).register (discard m t ps p r).left) × Counted (discard m t ps p r).register
 discard_gain m t [] p r c = (omega arith, c)
-discard_gain m t (◌∷◌ o os) p r c = by_test (ltb o.head t) _ _ (λ (x : Discarded). (x.register.count + tally m r (o ∷ os) ≤ r.count + tally m x.register x.left) × Counted x.register)
+discard_gain m t (o ∷ os) p r c = by_test (ltb o.head t) _ _ (λ (x : Discarded). (x.register.count + tally m r (o ∷ os) ≤ r.count + tally m x.register x.left) × Counted x.register)
     (λ e. let h = object_hash m o in
     let ih = discard_gain m t os (slot_back p o.slot (links_of o)) (struck r h (length os)) (counted_struck r h (length os) c) in
     let a = struck_count r h (length os) c in
@@ -136,7 +136,7 @@ record Gain (c : Call) (s : State) (r : Pairs) (m : List ℕ) (ps : List Object)
 
 discard_capacity : (m : List ℕ) (t : ℕ) (ps : List Object) (p : Pool) (r : Pairs) → (discard m t ps p r).register.capacity ≡ r.capacity
 discard_capacity m t [] p r = refl
-discard_capacity m t (◌∷◌ o os) p r = by_test (ltb o.head t) _ _ (λ (x : Discarded). x.register.capacity ≡ r.capacity) (λ e. discard_capacity m t os _ _) (λ e. refl)
+discard_capacity m t (o ∷ os) p r = by_test (ltb o.head t) _ _ (λ (x : Discarded). x.register.capacity ≡ r.capacity) (λ e. discard_capacity m t os _ _) (λ e. refl)
 
 module _ (n : ℕ) (c : Call) (s : State) (sound : SoundState n s) (r : Pairs) (ok : Counted r) (m : List ℕ) (kept : drop s.tail m ≡ drop s.tail s.memory) where
   kept_tally : tally m r s.packed ≡ tally s.memory r s.packed
@@ -188,10 +188,10 @@ run_tallied b ok cs e =
     go : (cs : List Call) → (at b cs).ended ≡ false →
         ((run b cs).register.count ≤ tally (at b cs).memory (run b cs).register (at b cs).packed + (b.register.count + entries cs)) × Counted (run b cs).register × ((run b cs).register.capacity ≡ b.register.capacity)
     go [] e = (omega arith, ok, refl)
-    go (◌∷◌ c cs) e =
+    go (c ∷ cs) e =
         let called = run_called b c cs in
         let before = called.stays e in
         let a = go cs before in
-        let g = effect_gain (span b) c (at b cs) (run_sound b cs) (run b cs).register a.1 (at b (◌∷◌ c cs)).memory (called.kept (e ∙ sym before)) (call_effect c (at b cs) (run b cs).register (run b cs).answers) in
+        let g = effect_gain (span b) c (at b cs) (run_sound b cs) (run b cs).register a.1 (at b (c ∷ cs)).memory (called.kept (e ∙ sym before)) (call_effect c (at b cs) (run b cs).register (run b cs).answers) in
         let x = a.0 in let y = g.gained in
         (omega arith, g.counted, g.capacity ∙ a.2)

@@ -18,14 +18,14 @@ use Rattle.model.proofs.Number.{none_some, numbered_here, numbered_there, number
 
 same_bytes_true : (xs ys : List ℕ) → same_bytes xs ys ≡ true → xs ≡ ys
 same_bytes_true [] [] e = refl
-same_bytes_true [] (◌∷◌ y ys) e = absurd (both_ways false refl e)
-same_bytes_true (◌∷◌ x xs) [] e = absurd (both_ways false refl e)
-same_bytes_true (◌∷◌ x xs) (◌∷◌ y ys) e =
+same_bytes_true [] (y ∷ ys) e = absurd (both_ways false refl e)
+same_bytes_true (x ∷ xs) [] e = absurd (both_ways false refl e)
+same_bytes_true (x ∷ xs) (y ∷ ys) e =
     let p = and_parts (eqb x y) (same_bytes xs ys) e in let a = eqb-true x y p.0 in let b = same_bytes_true xs ys p.1 in cc
 
 same_bytes_refl : (xs : List ℕ) → same_bytes xs xs ≡ true
 same_bytes_refl [] = refl
-same_bytes_refl (◌∷◌ x xs) = and_from (eqb x x) (same_bytes xs xs) (eq-eqb x x refl) (same_bytes_refl xs)
+same_bytes_refl (x ∷ xs) = and_from (eqb x x) (same_bytes xs xs) (eq-eqb x x refl) (same_bytes_refl xs)
 
 same_mark_true : (a b : Bool) → same_mark a b ≡ true → a ≡ b
 same_mark_true true true e = refl
@@ -87,14 +87,14 @@ same_link_refl k =
 
 same_links_true : (ks ls : List Link) → same_links ks ls ≡ true → ks ≡ ls
 same_links_true [] [] e = refl
-same_links_true [] (◌∷◌ y ys) e = absurd (both_ways false refl e)
-same_links_true (◌∷◌ x xs) [] e = absurd (both_ways false refl e)
-same_links_true (◌∷◌ x xs) (◌∷◌ y ys) e =
+same_links_true [] (y ∷ ys) e = absurd (both_ways false refl e)
+same_links_true (x ∷ xs) [] e = absurd (both_ways false refl e)
+same_links_true (x ∷ xs) (y ∷ ys) e =
     let p = and_parts (same_link x y) (same_links xs ys) e in let a = same_link_true x y p.0 in let b = same_links_true xs ys p.1 in cc
 
 same_links_refl : (ks : List Link) → same_links ks ks ≡ true
 same_links_refl [] = refl
-same_links_refl (◌∷◌ x xs) = and_from (same_link x x) (same_links xs xs) (same_link_refl x) (same_links_refl xs)
+same_links_refl (x ∷ xs) = and_from (same_link x x) (same_links xs xs) (same_link_refl x) (same_links_refl xs)
 
 -- ---- a match
 
@@ -144,4 +144,4 @@ module _ (m : List ℕ) (r : Pairs) (h : ℕ) (bs : List ℕ) (ls : List Link) w
 
   pub twin_searched : (ps : List Object) → Searched ps (twin m r h bs ls ps)
   twin_searched [] = λ j q n w. none_some q n
-  twin_searched (◌∷◌ p ps) = searching p ps (twin m r h bs ls ps) (twin_searched ps)
+  twin_searched (p ∷ ps) = searching p ps (twin m r h bs ls ps) (twin_searched ps)

@@ -32,9 +32,9 @@ object_hash m o = hash (part m o.head o.tail) o.real
 
 abbrev pub same_bytes : List ℕ → List ℕ → Bool
 same_bytes [] [] = true
-same_bytes [] (◌∷◌ y ys) = false
-same_bytes (◌∷◌ x xs) [] = false
-same_bytes (◌∷◌ x xs) (◌∷◌ y ys) = x == y && same_bytes xs ys
+same_bytes [] (y ∷ ys) = false
+same_bytes (x ∷ xs) [] = false
+same_bytes (x ∷ xs) (y ∷ ys) = x == y && same_bytes xs ys
 
 abbrev pub same_mark : Bool → Bool → Bool
 same_mark a b = cond a b (not b)
@@ -46,9 +46,9 @@ same_link k l =
 
 abbrev pub same_links : List Link → List Link → Bool
 same_links [] [] = true
-same_links [] (◌∷◌ y ys) = false
-same_links (◌∷◌ x xs) [] = false
-same_links (◌∷◌ x xs) (◌∷◌ y ys) = same_link x y && same_links xs ys
+same_links [] (y ∷ ys) = false
+same_links (x ∷ xs) [] = false
+same_links (x ∷ xs) (y ∷ ys) = same_link x y && same_links xs ys
 
 -- whether the packed object of number k is entered under h and has these bytes and real links
 abbrev pub matches : List ℕ → Pairs → ℕ → List ℕ → List Link → ℕ → Object → Bool
@@ -61,7 +61,7 @@ or_else None o = o
 -- the least number of such an object
 abbrev pub twin : List ℕ → Pairs → ℕ → List ℕ → List Link → List Object → Option ℕ
 twin m r h bs ls [] = None
-twin m r h bs ls (◌∷◌ p ps) = or_else (twin m r h bs ls ps) (cond (matches m r h bs ls (length ps) p) (Some (length ps)) None)
+twin m r h bs ls (p ∷ ps) = or_else (twin m r h bs ls ps) (cond (matches m r h bs ls (length ps) p) (Some (length ps)) None)
 
 -- ---- moving up
 
@@ -75,7 +75,7 @@ move o os s = record { memory = write s.memory (s.tail - (s.head - o.head)) (par
 -- ---- packing
 
 abbrev pub pack_new : Object → State → State
-pack_new o s = with_packed (with_cursor s s.head o.head) (◌∷◌ o s.packed) s.pool
+pack_new o s = with_packed (with_cursor s s.head o.head) (o ∷ s.packed) s.pool
 
 -- the twin takes over the virtual links; tail stays
 abbrev pub pack_twin : Object → ℕ → State → State
@@ -110,7 +110,7 @@ close share o os s r = elim (nat_lt s.head o.head) [
 
 abbrev pub close_first : Bool → List Object → State → Pairs → Out (Option ObjIdx)
 close_first share [] s r = out s r None
-close_first share (◌∷◌ o os) s r = close share o os s r
+close_first share (o ∷ os) s r = close share o os s r
 
 abbrev pub pop_pack : Bool → State → Pairs → Out (Option ObjIdx)
 pop_pack share s r = elim (idle s) [

@@ -7,7 +7,7 @@ use Rattle.model.specs.State.{State, flag}
 -- the first test that holds declines: its flags are joined to those that stand, and all are answered
 abbrev pub refuse : {A : Type 0} → List (Bool × SerializeErrorFlags) → (SerializeErrorFlags → A) → State → (State → State × A) → State × A
 refuse [] e s go = go s
-refuse (◌∷◌ t ts) e s go = elim t.0 [ true ↦ (flag s t.1, e (joined s.flags t.1)) | false ↦ refuse ts e s go ]
+refuse (t ∷ ts) e s go = elim t.0 [ true ↦ (flag s t.1, e (joined s.flags t.1)) | false ↦ refuse ts e s go ]
 
 -- an ended serializer does not change: the flags are answered with OTHER added
 abbrev pub unless_ended : {A : Type 0} → (SerializeErrorFlags → A) → State → (State → State × A) → State × A
@@ -28,7 +28,7 @@ abbrev pub flagged : State → Bool
 flagged s = not (same_flags s.flags none)
 
 abbrev pub nothing_open : State → Bool
-nothing_open s = elim s.opened [ [] ↦ true | ◌∷◌ o os ↦ false ]
+nothing_open s = elim s.opened [ [] ↦ true | o ∷ os ↦ false ]
 
 -- nothing is closed, discarded or reverted: ended, or a hard flag stands
 abbrev pub idle : State → Bool

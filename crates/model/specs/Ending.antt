@@ -48,12 +48,12 @@ single (Some f) = Some (f ∷ [])
 
 abbrev pub fields_of : State → Object → List Link → Option (List Field)
 fields_of s o [] = Some []
-fields_of s o (◌∷◌ l ls) = and_then (single (field s o l (numbered s.packed l.objidx.0))) (fields_of s o ls)
+fields_of s o (l ∷ ls) = and_then (single (field s o l (numbered s.packed l.objidx.0))) (fields_of s o ls)
 
 -- by the objects' numbers, so those behind first, and by the order of the links; none if one of them has none
 abbrev pub fields : State → List Object → Option (List Field)
 fields s [] = Some []
-fields s (◌∷◌ o os) = and_then (fields s os) (fields_of s o o.real)
+fields s (o ∷ os) = and_then (fields s os) (fields_of s o o.real)
 
 -- ---- writing them
 
@@ -75,7 +75,7 @@ put_field f s = elim (f.width == 0) [
 
 abbrev pub put_fields : List Field → State → State
 put_fields [] s = s
-put_fields (◌∷◌ f fs) s = put_fields fs (put_field f s)
+put_fields (f ∷ fs) s = put_fields fs (put_field f s)
 
 abbrev pub resolved : Option (List Field) → State → State
 resolved None s = flag s other
@@ -96,7 +96,7 @@ finish w = out (resolve (with_ended w.state)) w.register tt
 -- with nothing packed the object stays open
 abbrev pub end_over : List Object → State → Pairs → Out (Unit {0})
 end_over [] s r = out s r tt
-end_over (◌∷◌ p ps) s r = finish (pop_pack false s r)
+end_over (p ∷ ps) s r = finish (pop_pack false s r)
 
 abbrev pub end_flagged : State → State
 end_flagged s = with_flags s (cond (contains s.flags offset_overflow) (joined s.flags other) s.flags)

@@ -15,12 +15,12 @@ use Rattle.model.specs.Declining.{refuse, guarded, flagged, nothing_open}
 -- ---- real links
 
 abbrev pub open_head : State → ℕ
-open_head s = elim s.opened [ [] ↦ 0 | ◌∷◌ o os ↦ o.head ]
+open_head s = elim s.opened [ [] ↦ 0 | o ∷ os ↦ o.head ]
 
 -- the innermost object with a real link more
 abbrev pub extend : Link → List Object → List Object
 extend l [] = []
-extend l (◌∷◌ o os) = ◌∷◌ (record { slot = o.slot; head = o.head; tail = o.tail; real = o.real ++ (l ∷ []); virtual = o.virtual }) os
+extend l (o ∷ os) = (record { slot = o.slot; head = o.head; tail = o.tail; real = o.real ++ (l ∷ []); virtual = o.virtual }) ∷ os
 
 abbrev pub cell_taken : Pool → Pool
 cell_taken p = with_linked p (suc p.linked)
@@ -48,7 +48,7 @@ virtual_to k = record { width = Zero; is_signed = false; whence = Head; bias = 0
 
 abbrev pub extend_virtual : ObjIdx → List Object → List Object
 extend_virtual k [] = []
-extend_virtual k (◌∷◌ o os) = ◌∷◌ (record { slot = o.slot; head = o.head; tail = o.tail; real = o.real; virtual = o.virtual ++ (virtual_to k ∷ []) }) os
+extend_virtual k (o ∷ os) = (record { slot = o.slot; head = o.head; tail = o.tail; real = o.real; virtual = o.virtual ++ (virtual_to k ∷ []) }) ∷ os
 
 abbrev pub virtual_tests : State → List (Bool × SerializeErrorFlags)
 virtual_tests s = (nothing_open s, other) ∷ (not (cell_free s.pool), other) ∷ []
@@ -65,13 +65,13 @@ add_virtual_link k s = guarded virtual_tests Err (linking_virtual k) s
 -- the packed object of a number with virtual links more
 abbrev pub lend : List Link → ℕ → List Object → List Object
 lend vs k [] = []
-lend vs k (◌∷◌ p ps) = elim (length ps == k) [
-  | true ↦ ◌∷◌ (record { slot = p.slot; head = p.head; tail = p.tail; real = p.real; virtual = p.virtual ++ vs }) ps
-  | false ↦ ◌∷◌ p (lend vs k ps)
+lend vs k (p ∷ ps) = elim (length ps == k) [
+  | true ↦ (record { slot = p.slot; head = p.head; tail = p.tail; real = p.real; virtual = p.virtual ++ vs }) ∷ ps
+  | false ↦ p ∷ lend vs k ps
 ]
 
 abbrev pub open_links : State → List Link
-open_links s = elim s.opened [ [] ↦ [] | ◌∷◌ o os ↦ o.real ]
+open_links s = elim s.opened [ [] ↦ [] | o ∷ os ↦ o.real ]
 
 abbrev pub child_tests : Link → State → List (Bool × SerializeErrorFlags)
 child_tests l s = (not (is_some (numbered s.packed l.objidx.0)), other) ∷ (not (cell_free s.pool), other) ∷ []
@@ -83,7 +83,7 @@ ordering k l s = with_packed s (lend (virtual_to k ∷ []) l.objidx.0 s.packed) 
 -- through the links in their order, past those to k; where one is declined those before it stay ordered
 abbrev pub repacking : ObjIdx → List Link → State → State × Result (Unit {0}) SerializeErrorFlags
 repacking k [] s = (s, Ok tt)
-repacking k (◌∷◌ l ls) s = elim (l.objidx.0 == k.0) [
+repacking k (l ∷ ls) s = elim (l.objidx.0 == k.0) [
   | true ↦ repacking k ls s
   | false ↦ refuse (child_tests l s) Err s (λ s. repacking k ls (ordering k l s))
 ]
@@ -99,7 +99,7 @@ repack_last k s = guarded repack_tests Err (λ s. repacking k (open_links s) s) 
 
 abbrev pub last_number : List Link → Option ObjIdx
 last_number [] = None
-last_number (◌∷◌ l ls) = elim ls [ [] ↦ Some l.objidx | ◌∷◌ x xs ↦ last_number ls ]
+last_number (l ∷ ls) = elim ls [ [] ↦ Some l.objidx | x ∷ xs ↦ last_number ls ]
 
 abbrev pub last_added_child_index : State → Option ObjIdx
 last_added_child_index s = last_number (open_links s)

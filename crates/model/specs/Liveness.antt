@@ -14,7 +14,7 @@ NotOlder j Plain = Unit {0}
 
 abbrev pub NoneOlder : ℕ → List Call → Type 0
 NoneOlder j [] = Unit {0}
-NoneOlder j (◌∷◌ c cs) = NotOlder j (role c) × NoneOlder j cs
+NoneOlder j (c ∷ cs) = NotOlder j (role c) × NoneOlder j cs
 
 -- the snapshot that the j-th call took is live after the run cs
 pub record Live (b : Beginning) (j : ℕ) (cs : List Call) : Type 0 where
@@ -36,4 +36,4 @@ MayRevert b Plain cs = Unit {0}
 -- no snapshot is reverted unless live
 abbrev pub LiveRun : Beginning → List Call → Type 0
 LiveRun b [] = Unit {0}
-LiveRun b (◌∷◌ c cs) = MayRevert b (role c) cs × LiveRun b cs
+LiveRun b (c ∷ cs) = MayRevert b (role c) cs × LiveRun b cs

@@ -11,7 +11,7 @@ at b cs = (run b cs).state
 
 -- what the last call answered
 abbrev pub answered : Beginning → List Call → Answer
-answered b cs = elim (run b cs).answers [ [] ↦ Nothing | ◌∷◌ a an ↦ a ]
+answered b cs = elim (run b cs).answers [ [] ↦ Nothing | a ∷ an ↦ a ]
 
 -- how many bytes the memory has
 abbrev pub span : Beginning → ℕ
@@ -27,7 +27,7 @@ count s = length s.packed
 -- P holds at each moment from the run `before` on, through the calls `since`
 abbrev pub Through : (List Call → Type 0) → List Call → List Call → Type 0
 Through P [] before = P before
-Through P (◌∷◌ c since) before = P (◌∷◌ c (since ++ before)) × Through P since before
+Through P (c ∷ since) before = P (c ∷ (since ++ before)) × Through P since before
 
 -- what a call is to snapshots and to the register's owner
 pub data Role : Type 0 where

@@ -74,7 +74,7 @@ pub record Added (b : Beginning) (cs : List Call) (k i : ℕ) (l : Link) : Type 
   pub since : List Call
   pub made : cs ≡ since ++ (closing ∷ (meanwhile ++ (adds l range_from range_to ∷ before)))
   -- the call was accepted for the object open then, whose link i it became
-  pub accepted : answered b (◌∷◌ (adds l range_from range_to) before) ≡ Done (Ok tt)
+  pub accepted : answered b (adds l range_from range_to ∷ before) ≡ Done (Ok tt)
   pub parent : Object
   pub below : List Object
   pub opened : (at b before).opened ≡ parent ∷ below
@@ -84,8 +84,8 @@ pub record Added (b : Beginning) (cs : List Call) (k i : ℕ) (l : Link) : Type 
   -- until it was closed
   pub kept : Through (λ ds. HasLink (at b ds).opened (length below) i l) meanwhile (adds l range_from range_to ∷ before)
   pub innermost : depth (at b (meanwhile ++ (adds l range_from range_to ∷ before))) ≡ suc (length below)
-  pub closed : depth (at b (◌∷◌ closing (meanwhile ++ (adds l range_from range_to ∷ before)))) ≡ length below
-  pub as_number : (count (at b (meanwhile ++ (adds l range_from range_to ∷ before))) ≡ k) × (count (at b (◌∷◌ closing (meanwhile ++ (adds l range_from range_to ∷ before)))) ≡ suc k)
+  pub closed : depth (at b (closing ∷ (meanwhile ++ (adds l range_from range_to ∷ before)))) ≡ length below
+  pub as_number : (count (at b (meanwhile ++ (adds l range_from range_to ∷ before))) ≡ k) × (count (at b (closing ∷ (meanwhile ++ (adds l range_from range_to ∷ before)))) ≡ suc k)
   -- and since
   pub stands : Through (λ ds. HasLink (at b ds).packed k i l) since (closing ∷ (meanwhile ++ (adds l range_from range_to ∷ before)))
 
@@ -113,7 +113,7 @@ pub record ReadsBack (b : Beginning) (cs : List Call) (k i : ℕ) (f : FieldOf (
 -- the bytes that each packed object has, the one closed last first
 abbrev pub contents : State → List Object → List ℕ
 contents s [] = []
-contents s (◌∷◌ p ps) = bytes_of s p ++ contents s ps
+contents s (p ∷ ps) = bytes_of s p ++ contents s ps
 
 -- after an ending of the run cs that ended the serializer and left no flag
 pub record LawC (b : Beginning) (cs : List Call) : Type 0 where
@@ -122,10 +122,10 @@ pub record LawC (b : Beginning) (cs : List Call) : Type 0 where
   pub opened : (at b cs).opened ≡ last ∷ []
   -- the loose bytes stand first, then as many bytes as were packed, each as it was unless in a field
   pub laid : List ℕ
-  pub whole : output (at b (◌∷◌ End cs)) ≡ take last.head (at b cs).memory ++ laid
+  pub whole : output (at b (End ∷ cs)) ≡ take last.head (at b cs).memory ++ laid
   pub sized : length laid ≡ length (part (at b cs).memory last.head (at b cs).head ++ contents (at b cs) (at b cs).packed)
-  pub unchanged : (n : ℕ) → n < length laid → (Inside (at b (◌∷◌ End cs)) (last.head + n) → ⊥) →
+  pub unchanged : (n : ℕ) → n < length laid → (Inside (at b (End ∷ cs)) (last.head + n) → ⊥) →
       slice_index laid n ≡ slice_index (part (at b cs).memory last.head (at b cs).head ++ contents (at b cs) (at b cs).packed) n
-  pub reads : (k i : ℕ) (f : FieldOf (at b (◌∷◌ End cs)) k i) → MeetsNone f → ReadsBack b (◌∷◌ End cs) k i f
+  pub reads : (k i : ℕ) (f : FieldOf (at b (End ∷ cs)) k i) → MeetsNone f → ReadsBack b (End ∷ cs) k i f
   -- `copy_bytes` answers all of it, given room
-  pub copied : (room : ℕ) → length (output (at b (◌∷◌ End cs))) ≤ room → answered b (◌∷◌ (Read (CopyBytes room)) (◌∷◌ End cs)) ≡ Bytes (Some (output (at b (◌∷◌ End cs))))
+  pub copied : (room : ℕ) → length (output (at b (End ∷ cs))) ≤ room → answered b (Read (CopyBytes room) ∷ End ∷ cs) ≡ Bytes (Some (output (at b (End ∷ cs))))

@@ -8,7 +8,7 @@ use Rattle.model.specs.Declining.{guarded, flagged, nothing_open}
 -- the object records head and tail, and takes a slot
 abbrev pub opening : State → State × Result (Unit {0}) SerializeErrorFlags
 opening s =
-    (with_opened s (◌∷◌ (record { slot = slot_next s.pool; head = s.head; tail = s.tail; real = []; virtual = [] }) s.opened) (slot_taken s.pool), Ok tt)
+    (with_opened s ((record { slot = slot_next s.pool; head = s.head; tail = s.tail; real = []; virtual = [] }) ∷ s.opened) (slot_taken s.pool), Ok tt)
 
 abbrev pub push_tests : State → List (Bool × SerializeErrorFlags)
 push_tests s = (flagged s, none) ∷ (not (slot_free s.pool), other) ∷ []

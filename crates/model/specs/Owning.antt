@@ -19,6 +19,6 @@ pub record Owning : Type 0 where
   -- whatever is entered while an object is open is held then
   pub yes : (b : Beginning) (cs : List Call) → LeftAlone b cs → (at b cs).ended ≡ false → (o : Object) (os : List Object) → (at b cs).opened ≡ o ∷ os → (h k : ℕ) → fits (run b cs).register h k ≡ true
   -- a closing that shares answers an entered object
-  pub shared : (b : Beginning) (cs : List Call) → LeftAlone b cs → (k : ℕ) → answered b (◌∷◌ (PopPack true) cs) ≡ Number (Some (index k)) → Entered (run b (◌∷◌ (PopPack true) cs)) k
+  pub shared : (b : Beginning) (cs : List Call) → LeftAlone b cs → (k : ℕ) → answered b (PopPack true ∷ cs) ≡ Number (Some (index k)) → Entered (run b (PopPack true ∷ cs)) k
   -- one entered object to the same bytes and real links
   pub alone : (b : Beginning) (cs : List Call) → LeftAlone b cs → (at b cs).ended ≡ false → (bs : List ℕ) (ls : List Link) (j k : ℕ) → Twin (run b cs) j bs ls → Twin (run b cs) k bs ls → j ≡ k

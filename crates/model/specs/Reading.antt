@@ -42,7 +42,7 @@ packed_count s = length s.packed
 
 -- head less the open object's head; 0 if that is negative, or nothing is open
 abbrev pub open_length : State → ℕ
-open_length s = elim s.opened [ [] ↦ 0 | ◌∷◌ o os ↦ s.head - o.head ]
+open_length s = elim s.opened [ [] ↦ 0 | o ∷ os ↦ s.head - o.head ]
 
 -- ---- bytes
 
@@ -89,8 +89,8 @@ object k s = option_map (seen s) (numbered s.packed k.0)
 -- the i-th of a list, from 0
 abbrev pub nth : List Link → ℕ → Option Link
 nth [] i = None
-nth (◌∷◌ l ls) zero = Some l
-nth (◌∷◌ l ls) (suc i) = nth ls i
+nth (l ∷ ls) zero = Some l
+nth (l ∷ ls) (suc i) = nth ls i
 
 abbrev pub real_of : Option Object → List Link
 real_of None = []

@@ -18,16 +18,16 @@ pub record Discarded : Type 0 where
 -- newest first, each that starts below t: its own pair is struck, if held, and its slot released
 abbrev pub discard : List ℕ → ℕ → List Object → Pool → Pairs → Discarded
 discard m t [] p r = record { left = []; pool = p; register = r }
-discard m t (◌∷◌ o os) p r = elim (nat_lt o.head t) [
+discard m t (o ∷ os) p r = elim (nat_lt o.head t) [
   | true ↦ discard m t os (slot_back p o.slot (links_of o)) (struck r (object_hash m o) (length os))
-  | false ↦ record { left = ◌∷◌ o os; pool = p; register = r }
+  | false ↦ record { left = o ∷ os; pool = p; register = r }
 ]
 
 -- ---- the rewind
 
 -- where tail must stand: at the lowest packed object, or at the end if none is packed
 abbrev pub edge : State → ℕ
-edge s = elim s.packed [ [] ↦ length s.memory | ◌∷◌ p ps ↦ p.head ]
+edge s = elim s.packed [ [] ↦ length s.memory | p ∷ ps ↦ p.head ]
 
 abbrev pub on_edge : State → State
 on_edge s = with_flags s (cond (edge s == s.tail) s.flags (joined s.flags other))
@@ -52,7 +52,7 @@ let_go o w = out (with_packed w.state w.state.packed (slot_back w.state.pool o.s
 
 abbrev pub discard_first : List Object → State → Pairs → Out (Unit {0})
 discard_first [] s r = out s r tt
-discard_first (◌∷◌ o os) s r = let_go o (rewind o.head o.tail (with_opened s os s.pool) r)
+discard_first (o ∷ os) s r = let_go o (rewind o.head o.tail (with_opened s os s.pool) r)
 
 abbrev pub pop_discard : State → Pairs → Out (Unit {0})
 pop_discard s r = elim (idle s) [
@@ -63,15 +63,15 @@ pop_discard s r = elim (idle s) [
 -- ---- snapshots
 
 abbrev pub open_slot : State → Option PoolIdx
-open_slot s = elim s.opened [ [] ↦ None | ◌∷◌ o os ↦ Some o.slot ]
+open_slot s = elim s.opened [ [] ↦ None | o ∷ os ↦ Some o.slot ]
 
 abbrev pub real_count : List Object → ℕ
 real_count [] = 0
-real_count (◌∷◌ o os) = length o.real
+real_count (o ∷ os) = length o.real
 
 abbrev pub virtual_count : List Object → ℕ
 virtual_count [] = 0
-virtual_count (◌∷◌ o os) = length o.virtual
+virtual_count (o ∷ os) = length o.virtual
 
 abbrev pub snapshot : State → Snapshot
 snapshot s = record { head = s.head; tail = s.tail; current = open_slot s; num_real_links = real_count s.opened; num_virtual_links = virtual_count s.opened; errors = s.flags }
@@ -85,11 +85,11 @@ same_slot (Some a) (Some b) = a.0 == b.0
 -- the innermost object with its first links only
 abbrev pub cut_first : ℕ → ℕ → List Object → List Object
 cut_first a b [] = []
-cut_first a b (◌∷◌ o os) = ◌∷◌ (record { slot = o.slot; head = o.head; tail = o.tail; real = take a o.real; virtual = take b o.virtual }) os
+cut_first a b (o ∷ os) = (record { slot = o.slot; head = o.head; tail = o.tail; real = take a o.real; virtual = take b o.virtual }) ∷ os
 
 abbrev pub cut_cells : ℕ → ℕ → List Object → ℕ → ℕ
 cut_cells a b [] n = n
-cut_cells a b (◌∷◌ o os) n = n - (length o.real - a) - (length o.virtual - b)
+cut_cells a b (o ∷ os) n = n - (length o.real - a) - (length o.virtual - b)
 
 abbrev pub cut : ℕ → ℕ → State → State
 cut a b s = with_opened s (cut_first a b s.opened) (with_linked s.pool (cut_cells a b s.opened s.pool.linked))

@@ -121,7 +121,7 @@ taken (Linked x) = None
 -- the snapshot that the n-th answer was, the answers standing last first
 abbrev pub taken_at : List Answer → ℕ → Option Snapshot
 taken_at [] n = None
-taken_at (◌∷◌ a an) n = elim (length an == n) [ true ↦ taken a | false ↦ taken_at an n ]
+taken_at (a ∷ an) n = elim (length an == n) [ true ↦ taken a | false ↦ taken_at an n ]
 
 -- nothing, if there is no such snapshot
 abbrev pub revert_to : Option Snapshot → State → Pairs → Out (Unit {0})
@@ -166,11 +166,11 @@ pub record Beginning : Type 0 where
   pub register : Pairs
 
 abbrev pub after : Out Answer → List Answer → World
-after o an = record { state = o.state; register = o.register; answers = ◌∷◌ o.answer an }
+after o an = record { state = o.state; register = o.register; answers = o.answer ∷ an }
 
 abbrev pub step : Call → World → World
 step c w = after (call c w.state w.register w.answers) w.answers
 
 abbrev pub run : Beginning → List Call → World
 run b [] = record { state = new b.size b.slots b.cells b.register.capacity; register = b.register; answers = [] }
-run b (◌∷◌ c cs) = step c (run b cs)
+run b (c ∷ cs) = step c (run b cs)

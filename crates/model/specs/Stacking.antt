@@ -10,12 +10,12 @@ use Rattle.model.specs.Moments.{at, span}
 -- where the lowest of them starts, or the end e
 abbrev pub lowest : ℕ → List Object → ℕ
 lowest e [] = e
-lowest e (◌∷◌ p ps) = p.head
+lowest e (p ∷ ps) = p.head
 
 -- each object has bytes, and ends where the one packed before it starts, the first at e
 abbrev pub Stacked : ℕ → List Object → Type 0
 Stacked e [] = Unit {0}
-Stacked e (◌∷◌ p ps) = (p.head < p.tail) × (p.tail ≡ lowest e ps) × Stacked e ps
+Stacked e (p ∷ ps) = (p.head < p.tail) × (p.tail ≡ lowest e ps) × Stacked e ps
 
 -- after every run
 pub record LawA (b : Beginning) (cs : List Call) : Type 0 where
@@ -25,6 +25,6 @@ pub record LawA (b : Beginning) (cs : List Call) : Type 0 where
   pub under : (at b cs).tail ≤ lowest (span b) (at b cs).packed
   pub meets : (hard (at b cs).flags ≡ true) ⊎ ((at b cs).tail ≡ lowest (span b) (at b cs).packed)
   -- only `end_serialize` ends, and a call that does not end the serializer writes no byte of a packed object
-  pub ending : (c : Call) → c ≢ End → (at b (◌∷◌ c cs)).ended ≡ (at b cs).ended
-  pub unwritten : (c : Call) → (at b (◌∷◌ c cs)).ended ≡ (at b cs).ended →
-      (k : ℕ) (p : Object) → numbered (at b cs).packed k ≡ Some p → bytes_of (at b (◌∷◌ c cs)) p ≡ bytes_of (at b cs) p
+  pub ending : (c : Call) → c ≢ End → (at b (c ∷ cs)).ended ≡ (at b cs).ended
+  pub unwritten : (c : Call) → (at b (c ∷ cs)).ended ≡ (at b cs).ended →
+      (k : ℕ) (p : Object) → numbered (at b cs).packed k ≡ Some p → bytes_of (at b (c ∷ cs)) p ≡ bytes_of (at b cs) p

@@ -8,7 +8,7 @@ use Rattle.model.specs.Moments.{at}
 -- after every run, whatever snapshots are reverted
 pub record Stands (b : Beginning) (cs : List Call) : Type 0 where
   -- to a hard set a call only joins flags
-  pub joins : (c : Call) → hard (at b cs).flags ≡ true → (f : SerializeErrorFlags) × ((at b (◌∷◌ c cs)).flags ≡ joined (at b cs).flags f)
+  pub joins : (c : Call) → hard (at b cs).flags ≡ true → (f : SerializeErrorFlags) × ((at b (c ∷ cs)).flags ≡ joined (at b cs).flags f)
   pub stays_hard : (since : List Call) → hard (at b cs).flags ≡ true → hard (at b (since ++ cs)).flags ≡ true
   -- an ended serializer does not change
   pub stays_ended : (since : List Call) → (at b cs).ended ≡ true → at b (since ++ cs) ≡ at b cs

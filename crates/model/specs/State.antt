@@ -42,21 +42,21 @@ index k = record { 0 = k }
 -- the packed object of a number, if there is one
 abbrev pub numbered : List Object → ℕ → Option Object
 numbered [] k = None
-numbered (◌∷◌ p ps) k = elim (length ps == k) [ true ↦ Some p | false ↦ numbered ps k ]
+numbered (p ∷ ps) k = elim (length ps == k) [ true ↦ Some p | false ↦ numbered ps k ]
 
 -- ---- slots and link cells
 
 abbrev pub slot_free : Pool → Bool
-slot_free p = elim p.released [ [] ↦ nat_lt p.used p.slots | ◌∷◌ x xs ↦ true ]
+slot_free p = elim p.released [ [] ↦ nat_lt p.used p.slots | x ∷ xs ↦ true ]
 
 -- the slot released last, else the lowest never used
 abbrev pub slot_next : Pool → PoolIdx
-slot_next p = elim p.released [ [] ↦ record { 0 = p.used } | ◌∷◌ x xs ↦ x ]
+slot_next p = elim p.released [ [] ↦ record { 0 = p.used } | x ∷ xs ↦ x ]
 
 abbrev pub slot_taken : Pool → Pool
 slot_taken p = elim p.released [
   | [] ↦ record { released = []; used = suc p.used; slots = p.slots; linked = p.linked; cells = p.cells }
-  | ◌∷◌ x xs ↦ record { released = xs; used = p.used; slots = p.slots; linked = p.linked; cells = p.cells }
+  | x ∷ xs ↦ record { released = xs; used = p.used; slots = p.slots; linked = p.linked; cells = p.cells }
 ]
 
 -- a slot released, with so many link cells
