@@ -1,5 +1,7 @@
 // The register through which equal objects are found: a set of pairs of a hash and an object's number, of
 // at most so many. Its owner chooses an implementation; code above it knows it by its meaning alone.
+#![tactic(auto)]
+
 ghost use Rattle.std.specs.Prelude.{◌≡◌};
 ghost use Rattle.register.specs.Match.{LeastMatch};
 ghost use Rattle.register.specs.Pairs.{Pairs, fits, entered, struck, Next, Counted};
