@@ -1,11 +1,11 @@
 -- The offset of a link, measured from its base, is the value of its field.
-use Rattle.std.proofs.Common.{◌≡◌, ℕ, ◌+◌, ◌-◌, ◌<◌, ◌≤◌, Bool, true, false, cond, ltb, List, [], ◌∷◌, Some, None, Option, sym, refl, ap, ◌∙◌, arith}
+use Rattle.std.proofs.Common.{◌≡◌, ℕ, ◌+◌, ◌-◌, ◌≤◌, Bool, true, false, cond, ltb, Some, None, Option, refl, ◌∙◌, arith}
 use Rattle.std.specs.Option.{option_map}
 use Rattle.std.proofs.lemmas.Bool.Decides.{nat_tests}
 use Rattle.link.specs.declared.Link.{Link}
 use Rattle.link.specs.declared.OffsetWhence.{OffsetWhence}
 use Rattle.link.specs.declared.OffsetWhence.TheVariants.{Head, Tail, Absolute}
-use Rattle.model.specs.State.{State, Object, numbered}
+use Rattle.model.specs.State.{State, Object}
 use Rattle.model.specs.Ending.{Field, reach, field}
 use Rattle.objects.specs.Change.{outlined}
 use Rattle.offset_fields.specs.Passes.{beyond, base, offset_to, extent_of, field_at}

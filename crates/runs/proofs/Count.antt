@@ -1,11 +1,8 @@
 -- The bytes of a count, for `check_assign` at each kind of count.
-use Rattle.std.proofs.Common.{◌≡◌, ℕ, ◌≤◌, Bool, true, false, cond, leb, List, Some, None, Option, sym, refl, ap, ◌∙◌}
+use Rattle.std.proofs.Common.{◌≡◌, ℕ, ◌≤◌, Bool, true, false, cond, leb, List, Some, None, Option, refl, ap}
 use Rattle.std.specs.Option.{option_map}
 use Rattle.std.proofs.lemmas.Bool.{leb-true}
-use Rattle.cursor.specs.declared.flags.SerializeErrorFlags.{SerializeErrorFlags}
 use Rattle.scalar.specs.BigEndian.{big_endian}
-use Rattle.model.specs.State.{State}
-use Rattle.model.specs.Writing.{check_assign}
 
 -- a value that stands for a count has the count's bytes
 pub fitting : {S : Type 0} (bytes : S → List ℕ) (counting : ℕ → S) (most width n : ℕ) → (n ≤ most → bytes (counting n) ≡ big_endian width n) →

@@ -1,5 +1,5 @@
 -- The answers of the model that the answers of a list stand for.
-use Rattle.std.specs.Prelude.{ℕ, List, map, reverse, vec_items}
+use Rattle.std.specs.Prelude.{List, map, reverse, vec_items}
 use Rattle.std.specs.Option.{option_map}
 use Rattle.model.specs.Run as model
 use Rattle.model.specs.Reading.{Seen}

@@ -1,5 +1,5 @@
 -- What is read of the innermost object, against the list of the open ones.
-use Rattle.std.proofs.Common.{◌≡◌, ℕ, true, false, not, List, [], ◌∷◌, length, is_some, Some, None, refl, ap}
+use Rattle.std.proofs.Common.{◌≡◌, true, false, List, [], ◌∷◌, length, Some, refl, ap}
 use Rattle.link.specs.declared.Link.{Link}
 use Rattle.std.specs.Option.{option_map}
 use Rattle.model.specs.State.{Object, State}

@@ -1,5 +1,5 @@
 -- A child ordered before another object.
-use Rattle.std.specs.Prelude.{ℕ, Bool, true, false, cond, ◌&&◌, ◌||◌, is_some, ◌==◌}
+use Rattle.std.specs.Prelude.{Bool, cond, ◌&&◌, ◌||◌, is_some, ◌==◌}
 use Rattle.link.specs.declared.Link.{Link}
 use Rattle.link.specs.declared.ObjIdx.{ObjIdx}
 use Rattle.model.specs.State.{State, numbered, cell_free}

@@ -1,5 +1,5 @@
 -- A memory that is cleared from its start to its end, and the state over it, for `over`.
-use Rattle.std.proofs.Common.{◌≡◌, ℕ, ◌+◌, Bool, true, false, cond, List, [], ◌++◌, length, take, drop, replicate, sym, refl, ap, ◌∙◌, append-nil, arith}
+use Rattle.std.proofs.Common.{◌≡◌, ℕ, ◌+◌, Bool, true, false, cond, List, [], ◌++◌, length, drop, replicate, ap, ◌∙◌, append-nil, arith}
 use Rattle.std.proofs.lemmas.List.{length-replicate, drop_all}
 use Rattle.std.proofs.lemmas.Bool.{le-leb}
 use Rattle.cursor.specs.Flags.{none}

@@ -1,5 +1,4 @@
 -- An object as it is handed out, in the words of the model.
-use Rattle.std.specs.Prelude.{length}
 use Rattle.model.specs.Reading.{Seen}
 use Rattle.serializer_read.specs.declared.view.ObjectView.{ObjectView}
 

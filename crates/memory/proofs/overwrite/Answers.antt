@@ -1,4 +1,4 @@
-use Rattle.std.proofs.Common.{◌≡◌, ◌+◌, ◌≤◌, length, sym, refl, arith}
+use Rattle.std.proofs.Common.{◌+◌, ◌≤◌, length, sym, refl, arith}
 use Rattle.memory.proofs.Written.{put_is}
 use Rattle.memory.proofs.overwrite.Goals as goal
 

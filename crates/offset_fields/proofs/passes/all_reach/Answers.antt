@@ -1,4 +1,4 @@
-use Rattle.std.proofs.Common.{◌≡◌, ◌<◌, length, sym, ap, ◌∙◌, add-one, arith}
+use Rattle.std.proofs.Common.{◌<◌, length, sym, ◌∙◌, add-one, arith}
 use Rattle.std.proofs.lemmas.Bool.{and_from}
 use Rattle.objects.specs.Contents.{contents}
 use Rattle.offset_fields.specs.Passes.{free}

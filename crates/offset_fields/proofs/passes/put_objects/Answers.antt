@@ -1,4 +1,4 @@
-use Rattle.std.proofs.Common.{◌≡◌, sym, ap, ◌∙◌, add-one}
+use Rattle.std.proofs.Common.{ap, ◌∙◌, add-one}
 use Rattle.model.specs.State.{numbered}
 use Rattle.objects.specs.Contents.{contents}
 use Rattle.offset_fields.specs.Passes.{free, put_object}

@@ -1,4 +1,4 @@
-use Rattle.std.proofs.Common.{◌≡◌, ℕ, length, vec_items, sym, ap, ◌∙◌, rules}
+use Rattle.std.proofs.Common.{◌≡◌, ℕ, length, vec_items, ap, ◌∙◌, rules}
 use Rattle.model.specs.Reading.{copied}
 use Rattle.serialize.specs.View.{view}
 use Rattle.runs.proofs.Output.{cut_out}

@@ -1,5 +1,5 @@
 -- Each kind: the bytes of the count that the scalar holds are those of the count.
-use Rattle.std.proofs.Common.{◌≡◌, ℕ, ◌-◌, ◌/◌, ◌^◌, ◌<◌, ◌≤◌, List, pos, Option, sym, refl, ap, ◌∙◌, mod-eq_of_lt, arith, w16, of_z}
+use Rattle.std.proofs.Common.{ℕ, ◌-◌, ◌/◌, ◌^◌, List, pos, Option, sym, refl, ap, ◌∙◌, mod-eq_of_lt, arith, w16, of_z}
 use Rattle.calls.specs.declared.scalar_value.CountKind.{CountKind}
 use Rattle.calls.specs.Meaning.{count_bytes}
 use Rattle.scalar.specs.BigEndian.{big_endian}

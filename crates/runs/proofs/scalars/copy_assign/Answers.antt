@@ -1,4 +1,4 @@
-use Rattle.std.proofs.Common.{◌≡◌, ℤ, sym, ap, ◌∙◌, w16, SFits, of_z, rules}
+use Rattle.std.proofs.Common.{ℤ, sym, ap, ◌∙◌, w16, SFits, of_z, rules}
 use Rattle.std.proofs.lemmas.Int.{to_z-of_z}
 use Rattle.scalar.specs.BigEndian.{big_endian}
 use Rattle.calls.specs.declared.scalar_value.ScalarValue.{ScalarValue}

@@ -1,4 +1,4 @@
-use Rattle.std.proofs.Common.{◌≡◌, ◌<◌, ◌≤◌, length, vec_items, sym, ap, ◌∙◌, arith, rules}
+use Rattle.std.proofs.Common.{◌<◌, ◌≤◌, length, vec_items, ◌∙◌, rules}
 use Rattle.runs.proofs.Taken.{taken_told, none_told}
 use Rattle.runs.proofs.steps.snapshot_at.Goals as goal
 

@@ -1,4 +1,4 @@
-use Rattle.std.proofs.Common.{◌≡◌, sym, ap, ◌∙◌}
+use Rattle.std.proofs.Common.{sym, ap, ◌∙◌}
 use Rattle.model.specs.Closing.{Out}
 use Rattle.model.specs.State.{State}
 use Rattle.register.specs.Pairs.{Pairs}

@@ -1,4 +1,4 @@
-use Rattle.std.proofs.Common.{◌≡◌, ℕ, replicate, ap, ◌∙◌}
+use Rattle.std.proofs.Common.{ℕ, replicate, ap, ◌∙◌}
 use Rattle.serializer_new.proofs.Cleared.{cleared, as_new}
 use Rattle.serializer_new.proofs.begins.over.Goals as goal
 

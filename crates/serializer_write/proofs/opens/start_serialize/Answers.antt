@@ -1,4 +1,4 @@
-use Rattle.std.proofs.Common.{◌≡◌, List, Err, Result, sym, ap, ◌∙◌}
+use Rattle.std.proofs.Common.{Err, Result, sym, ap, ◌∙◌}
 use Rattle.cursor.specs.declared.flags.SerializeErrorFlags.{SerializeErrorFlags}
 use Rattle.model.specs.State.{State}
 use Rattle.serializer_state.specs.View.{view}

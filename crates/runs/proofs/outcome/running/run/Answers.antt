@@ -1,10 +1,8 @@
-use Rattle.std.proofs.Common.{◌≡◌, List, [], map, ap, ◌∙◌, rules}
+use Rattle.std.proofs.Common.{[], map, ap, ◌∙◌, rules}
 use Rattle.model.specs.State.{State}
-use Rattle.model.specs.Run.{World, Beginning, run}
+use Rattle.model.specs.Run.{World, Beginning}
 use Rattle.model.proofs.Whole.{law_of_run}
 use Rattle.calls.specs.Meaning.{call_of}
-use Rattle.serialize.specs.View.{view}
-use Rattle.runs.specs.Told.{told}
 use Rattle.runs.specs.Going.{gone, world}
 use Rattle.runs.specs.Ran.{calls_of, beginning}
 use Rattle.runs.proofs.Going.{as_run}
