@@ -3,10 +3,13 @@
 #![tactic(auto)]
 
 ghost use Rattle.std.specs.Prelude.{◌≡◌, Decides};
+ghost use Rattle.link.specs.Feed.{whence_code};
 ghost use Rattle.link.specs.Width.{width_of_length, bytes_of_width};
 
+use std::fmt;
+
 // The number of a packed object: how many were packed before it.
-#[derive(Clone, Copy, PartialEq, Eq, Debug)]
+#[derive(Clone, Copy, PartialEq, Eq, PartialOrd, Ord, Debug)]
 pub struct ObjIdx(pub usize);
 
 // A slot of the pool of objects. It is no object number, and neither can be passed for the other.
@@ -64,6 +67,35 @@ impl LinkWidth {
             LinkWidth::Two => 2,
             LinkWidth::Three => 3,
             LinkWidth::Four => 4,
+        }
+    }
+}
+
+impl fmt::Display for ObjIdx {
+    fn fmt<W: fmt::Write>(&self, f: &mut fmt::Formatter<W>) -> fmt::Result {
+        write!(f, "{}", self.0)
+    }
+}
+
+impl fmt::Display for OffsetWhence {
+    fn fmt<W: fmt::Write>(&self, f: &mut fmt::Formatter<W>) -> fmt::Result {
+        f.write_str(match self {
+            OffsetWhence::Head => "head",
+            OffsetWhence::Tail => "tail",
+            OffsetWhence::Absolute => "abs",
+        })
+    }
+}
+
+// The byte that stands for it where the links of an object are hashed.
+impl From<OffsetWhence> for u8 {
+    ghost from_gives = { λ whence code. code ≡ whence_code whence };
+
+    fn from(whence: OffsetWhence) -> u8 {
+        match whence {
+            OffsetWhence::Head => 0,
+            OffsetWhence::Tail => 1,
+            OffsetWhence::Absolute => 2,
         }
     }
 }
