@@ -4,8 +4,28 @@
 ghost use Rattle.std.specs.Prelude.{◌≡◌, not};
 ghost use Rattle.cursor.specs.Flags.{named, none, out_of_room, offset_overflow, joined, same_flags, contains, soft, hard};
 
+use std::ops::BitOrAssign;
+
 #[derive(Clone, Copy, PartialEq, Eq, Debug)]
 pub struct SerializeErrorFlags(pub u16);
+
+// No flag stands at first.
+impl Default for SerializeErrorFlags {
+    ghost is_default = { λ flags. flags ≡ none };
+
+    fn default() -> SerializeErrorFlags {
+        SerializeErrorFlags::SERIALIZE_ERROR_NONE
+    }
+}
+
+// Joins two sets: the flags of both stand.
+impl BitOrAssign for SerializeErrorFlags {
+    ghost bitor_assign_gives = { λ old flags new. new ≡ joined old flags };
+
+    fn bitor_assign(&mut self, flags: SerializeErrorFlags) {
+        self.0 |= flags.0;
+    }
+}
 
 impl SerializeErrorFlags {
     pub const SERIALIZE_ERROR_NONE: Self = Self(0x0000);
@@ -45,7 +65,7 @@ impl SerializeErrorFlags {
         ensures answer { result ≡ joined self.old error_type }
         ensures state { self.new ≡ joined self.old error_type }
     {
-        self.0 |= error_type.0;
+        *self |= error_type;
         *self
     }
 
@@ -60,14 +80,14 @@ impl SerializeErrorFlags {
     pub fn successful(self) -> bool
         ensures answer { result ≡ same_flags self none }
     {
-        self.0 == Self::SERIALIZE_ERROR_NONE.0
+        self == Self::SERIALIZE_ERROR_NONE
     }
 
     // Whether a flag stands.
     pub fn in_error(self) -> bool
         ensures answer { result ≡ not (same_flags self none) }
     {
-        self.0 != Self::SERIALIZE_ERROR_NONE.0
+        self != Self::SERIALIZE_ERROR_NONE
     }
 
     pub fn ran_out_of_room(self) -> bool
@@ -85,7 +105,7 @@ impl SerializeErrorFlags {
     pub fn only_offset_overflow(self) -> bool
         ensures answer { result ≡ same_flags self offset_overflow }
     {
-        self.0 == Self::SERIALIZE_ERROR_OFFSET_OVERFLOW.0
+        self == Self::SERIALIZE_ERROR_OFFSET_OVERFLOW
     }
 
     // Whether the set is soft: exactly one overflow.
@@ -93,8 +113,8 @@ impl SerializeErrorFlags {
         ensures answer { result ≡ soft self }
     {
         self.only_offset_overflow()
-            || self.0 == Self::SERIALIZE_ERROR_INT_OVERFLOW.0
-            || self.0 == Self::SERIALIZE_ERROR_ARRAY_OVERFLOW.0
+            || self == Self::SERIALIZE_ERROR_INT_OVERFLOW
+            || self == Self::SERIALIZE_ERROR_ARRAY_OVERFLOW
     }
 
     // Whether the set is hard: any but the empty one and the soft ones.

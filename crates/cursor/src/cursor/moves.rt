@@ -33,7 +33,7 @@ impl Cursor {
         ensures state { At self.new (advanced self.old size) self.old.tail self.old.end }
     {
         let old = self.head;
-        if size > self.tail - old {
+        if size > self.room() {
             return Err(SerializeErrorFlags::SERIALIZE_ERROR_OUT_OF_ROOM);
         }
         self.head = old + size;
