@@ -1,12 +1,8 @@
 -- What big-endian bytes are, for every width: how many, each below 256, showing the number they stand for, and the only ones that do.
-use Rattle.std.specs.Prelude.{◌≡◌, ℕ, zero, suc, ◌^◌, ◌<◌, List, length}
-use Rattle.std.proofs.Common.{◌∙◌, mod-eq_of_lt, arith}
+use Rattle.std.specs.Prelude.{◌≡◌, ℕ, ◌^◌, ◌<◌, List, length}
+use Rattle.std.proofs.Common.{◌∙◌, mod-eq_of_lt}
 use Rattle.scalar.specs.BigEndian.{number, big_endian, Bytes, Notation}
-use Rattle.scalar.specs.Laws.{length_big_endian, number_big_endian, number_shown}
-
-pub bytes_big_endian : (w n : ℕ) → Bytes (big_endian w n)
-bytes_big_endian zero n = tt
-bytes_big_endian (suc k) n = (omega arith, bytes_big_endian k n)
+use Rattle.scalar.specs.Laws.{length_big_endian, bytes_big_endian, number_big_endian, number_shown}
 
 pub number_back : (w n : ℕ) → n < 256 ^ w → number (big_endian w n) ≡ n
 number_back w n l = number_big_endian w n ∙ mod-eq_of_lt l

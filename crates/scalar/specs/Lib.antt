@@ -2,4 +2,5 @@ pub mod BigEndian
 pub mod Kinds
 pub mod Laws
 pub mod Place
+pub mod Scalars
 pub mod Small

@@ -6,34 +6,25 @@ ghost use Rattle.scalar.specs.Place.{room, write, read};
 use crate::Scalar;
 
 // Whether `size` bytes from `at` on lie within a buffer of `len`; their sum need not be a usize.
-fn has_room(len: usize, at: usize, size: usize) -> bool
-    ensures { result ≡ nat_le (at + size) len }
+pub fn has_room(len: usize, at: usize, size: usize) -> bool
+    ensures answer { result ≡ nat_le (at + size) len }
 {
     size <= len && at <= len - size
 }
 
-fn overwrite<S: Scalar>(buf: &mut [u8], at: usize, value: S) -> bool
+// Writes the bytes of a scalar from `at` on, exactly if they have room there.
+pub fn write_at<S: Scalar>(buf: &mut [u8], at: usize, value: S) -> bool
     ensures answer { result ≡ room buf.old at S.Scalar.width }
     ensures state { buf.new ≡ (if result then write buf.old at (S.Scalar.bytes value) else buf.old) }
     ensures fits { S.Scalar.fits value }
 {
     let size = S::size();
     let raw = value.raw();
-    if !has_room(buf.len(), at, size) {
-        return false;
+    let has = has_room(buf.len(), at, size);
+    if has {
+        buf[at..at + size].copy_from_slice(&raw[0..size]);
     }
-    buf[at..at + size].copy_from_slice(&raw[0..size]);
-    true
-}
-
-// Writes the bytes of a scalar from `at` on, exactly if they have room there. It takes the vector and not a
-// slice of it, so that its contract tells the vector's owner what the vector holds.
-pub fn write_at<S: Scalar>(buf: &mut Vec<u8>, at: usize, value: S) -> bool
-    ensures answer { result ≡ room buf.old.items at S.Scalar.width }
-    ensures state { buf.new.items ≡ (if result then write buf.old.items at (S.Scalar.bytes value) else buf.old.items) }
-    ensures fits { S.Scalar.fits value }
-{
-    overwrite(buf, at, value)
+    has
 }
 
 // Reads a scalar from `at` on, exactly if all its bytes are there. Its bytes are those that stand there.
@@ -52,9 +43,9 @@ pub fn read_at<S: Scalar>(buf: &[u8], at: usize) -> Option<S>
 }
 
 // Writes a scalar and reads it again: what was written is read back.
-pub fn write_read<S: Scalar + Copy>(buf: &mut Vec<u8>, at: usize, value: S) -> Option<S>
-    ensures answer { result ≡ (if room buf.old.items at S.Scalar.width then Some value else None) }
-    ensures state { buf.new.items ≡ (if room buf.old.items at S.Scalar.width then write buf.old.items at (S.Scalar.bytes value) else buf.old.items) }
+pub fn write_read<S: Scalar + Copy>(buf: &mut [u8], at: usize, value: S) -> Option<S>
+    ensures answer { result ≡ (if room buf.old at S.Scalar.width then Some value else None) }
+    ensures state { buf.new ≡ (if room buf.old at S.Scalar.width then write buf.old at (S.Scalar.bytes value) else buf.old) }
 {
     if write_at(buf, at, value) {
         read_at(buf, at)

@@ -10,6 +10,10 @@ pub struct Uint24 {
     ghost small: { value < 256 ^ 3 },
 }
 
+// A number that takes more than three bytes.
+#[derive(Clone, Copy, PartialEq, Eq, Debug)]
+pub struct Uint24Overflow(pub u32);
+
 // Four bytes that name a table, a script, a language system or a feature.
 #[derive(Clone, Copy, Debug)]
 pub struct Tag(pub [u8; 4]);

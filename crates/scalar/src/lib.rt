@@ -1,16 +1,17 @@
 // Numbers and tags that stand in a font file as one to four bytes, the most significant first.
 #![tactic(auto)]
 
-ghost use Rattle.std.specs.Prelude.{◌≡◌, ℕ, suc, ◌/◌, ◌^◌, ◌≤◌, Bool, List, length, take, if◌then◌else◌, Some, None, nat_le};
-ghost use Rattle.scalar.specs.BigEndian.{Bytes, Notation, big_endian};
+ghost use Rattle.std.specs.Prelude.{◌≡◌, ℕ, Bool, List, take, if◌then◌else◌, Some, None, nat_le};
+ghost use Rattle.scalar.specs.BigEndian.{Notation};
 ghost use Rattle.scalar.specs.Place.{in_four};
+ghost use Rattle.scalar.specs.Scalars.{ScalarLaws, CountLaws};
 
 pub mod buffer;
 pub mod kinds;
 pub mod numbers;
 
-pub use buffer::{read_at, write_at, write_read};
-pub use kinds::{Tag, Uint24};
+pub use buffer::{has_room, read_at, write_at, write_read};
+pub use kinds::{Tag, Uint24, Uint24Overflow};
 
 // A value that stands in a file as a few bytes. Its raw form is an array of four, of which the first are used.
 pub trait Scalar: Sized {
@@ -38,19 +39,9 @@ pub trait Scalar: Sized {
         ensures answer { result ≡ reads (take width raw) }
         ensures fits { fits result };
 
-    // It takes one to four bytes.
-    ghost wide: { 1 ≤ width };
-
-    ghost short: { width ≤ 4 };
-
-    ghost sized: { (x : Self) → fits x → length (bytes x) ≡ width };
-
-    ghost small: { (x : Self) → fits x → Bytes (bytes x) };
-
-    // Reading the bytes of a value gives it back, and any bytes are those of the value that they stand for.
-    ghost back: { (x : Self) → fits x → reads (bytes x) ≡ x };
-
-    ghost again: { (bs : List ℕ) → length bs ≡ width → Bytes bs → bytes (reads bs) ≡ bs };
+    // It takes one to four bytes, which are read back as the value, and any bytes are those of the value that they
+    // stand for.
+    ghost laws: { ScalarLaws width bytes reads fits };
 }
 
 // A scalar that can hold a count.
@@ -67,13 +58,8 @@ pub trait CountScalar: Scalar {
     fn from_count(n: usize) -> Option<Self>
         ensures { result ≡ (if nat_le n most then Some (counting n) else None) };
 
-    // Its bytes hold every number that has room beside a sign, if there is one.
-    ghost largest: { suc most ≡ (if signed then 256 ^ Self.Scalar.width / 2 else 256 ^ Self.Scalar.width) };
-
-    ghost held: { (n : ℕ) → n ≤ most → Self.Scalar.fits (counting n) };
-
-    // The bytes of a count show the count.
-    ghost counted: { (n : ℕ) → n ≤ most → Self.Scalar.bytes (counting n) ≡ big_endian Self.Scalar.width n };
+    // Its bytes hold every number that has room beside a sign, if there is one, and the bytes of a count show it.
+    ghost laws: { CountLaws Self.Scalar.width Self.Scalar.bytes Self.Scalar.fits signed most counting };
 }
 
 // Big-endian bytes are a notation for numbers, at every width: each number has its bytes, and bytes have one number.

@@ -1,9 +1,9 @@
 // The numbers of Rust as scalars, in big-endian bytes: a signed one by its two's complement.
 ghost use Rattle.std.specs.Prelude.{◌-◌, ◌/◌, ◌^◌, ◌<◌, true, false, pos, FitsSigned};
-ghost use Rattle.std.proofs.Common.{to_z, of_z, rules, ap, ◌∙◌};
+ghost use Rattle.std.proofs.Common.{to_z, of_z, rules, lit≤};
 ghost use Rattle.std.specs.Int.{w16};
 ghost use Rattle.scalar.specs.BigEndian.{number, big_endian};
-ghost use Rattle.scalar.specs.Laws.{number_shown};
+ghost use Rattle.scalar.specs.Laws.{as_number, unsigned, unsigned_counts};
 ghost use Rattle.std.proofs.lemmas.Int.{of_z-to_z};
 
 use crate::{CountScalar, Scalar};
@@ -17,17 +17,7 @@ impl Scalar for u8 {
 
     ghost fits = { λ x. x < 256 ^ 1 };
 
-    ghost wide = { Prim.search rules };
-
-    ghost short = { Prim.search rules };
-
-    ghost sized = { Prim.search rules };
-
-    ghost small = { Prim.search rules };
-
-    ghost back = { Prim.search rules };
-
-    ghost again = { λ bs l e. (number_shown 1 bs l e).1 };
+    ghost laws = { unsigned 1 (lit≤ tt) (lit≤ tt) };
 
     fn size() -> usize {
         1
@@ -51,17 +41,7 @@ impl Scalar for u16 {
 
     ghost fits = { λ x. x < 256 ^ 2 };
 
-    ghost wide = { Prim.search rules };
-
-    ghost short = { Prim.search rules };
-
-    ghost sized = { Prim.search rules };
-
-    ghost small = { Prim.search rules };
-
-    ghost back = { Prim.search rules };
-
-    ghost again = { λ bs l e. (number_shown 2 bs l e).1 };
+    ghost laws = { unsigned 2 (lit≤ tt) (lit≤ tt) };
 
     fn size() -> usize {
         2
@@ -88,17 +68,7 @@ impl Scalar for i16 {
 
     ghost fits = { FitsSigned w16 };
 
-    ghost wide = { Prim.search rules };
-
-    ghost short = { Prim.search rules };
-
-    ghost sized = { Prim.search rules };
-
-    ghost small = { Prim.search rules };
-
-    ghost back = { Prim.search rules };
-
-    ghost again = { λ bs l e. let shown = number_shown 2 bs l e in ap (big_endian 2) (of_z-to_z w16 (number bs) shown.0) ∙ shown.1 };
+    ghost laws = { as_number 2 (FitsSigned w16) (of_z w16) (to_z w16) (lit≤ tt) (lit≤ tt) (Prim.search rules) (Prim.search rules) (of_z-to_z w16) };
 
     fn size() -> usize {
         u16::size()
@@ -122,17 +92,7 @@ impl Scalar for u32 {
 
     ghost fits = { λ x. x < 256 ^ 4 };
 
-    ghost wide = { Prim.search rules };
-
-    ghost short = { Prim.search rules };
-
-    ghost sized = { Prim.search rules };
-
-    ghost small = { Prim.search rules };
-
-    ghost back = { Prim.search rules };
-
-    ghost again = { λ bs l e. (number_shown 4 bs l e).1 };
+    ghost laws = { unsigned 4 (lit≤ tt) (lit≤ tt) };
 
     fn size() -> usize {
         4
@@ -154,11 +114,7 @@ impl CountScalar for u8 {
 
     ghost counting = { λ n. n };
 
-    ghost largest = { Prim.search rules };
-
-    ghost held = { Prim.search rules };
-
-    ghost counted = { Prim.search rules };
+    ghost laws = { unsigned_counts 1 };
 
     fn from_count(n: usize) -> Option<u8> {
         u8::try_from(n).ok()
@@ -172,11 +128,7 @@ impl CountScalar for u16 {
 
     ghost counting = { λ n. n };
 
-    ghost largest = { Prim.search rules };
-
-    ghost held = { Prim.search rules };
-
-    ghost counted = { Prim.search rules };
+    ghost laws = { unsigned_counts 2 };
 
     fn from_count(n: usize) -> Option<u16> {
         u16::try_from(n).ok()
@@ -190,11 +142,7 @@ impl CountScalar for i16 {
 
     ghost counting = { pos };
 
-    ghost largest = { Prim.search rules };
-
-    ghost held = { Prim.search rules };
-
-    ghost counted = { Prim.search rules };
+    ghost laws = { record { largest = Prim.search rules; held = Prim.search rules; counted = Prim.search rules } };
 
     fn from_count(n: usize) -> Option<i16> {
         i16::try_from(n).ok()
@@ -208,11 +156,7 @@ impl CountScalar for u32 {
 
     ghost counting = { λ n. n };
 
-    ghost largest = { Prim.search rules };
-
-    ghost held = { Prim.search rules };
-
-    ghost counted = { Prim.search rules };
+    ghost laws = { unsigned_counts 4 };
 
     fn from_count(n: usize) -> Option<u32> {
         u32::try_from(n).ok()

@@ -1,35 +1,53 @@
 // What the kinds that are structs do: a number of three bytes is made from a u32 and turned back into one, tags
 // are compared, and both are scalars.
 ghost use Rattle.std.specs.Prelude.{◌≡◌, ℕ, ◌-◌, ◌%◌, ◌^◌, false, length, if◌then◌else◌, Some, None, Decides, nat_eq, nat_lt};
-ghost use Rattle.std.proofs.Common.{ap, ◌∙◌, mod-eq_of_lt, rules, arith};
+ghost use Rattle.std.proofs.Common.{mod-eq_of_lt, lit≤, rules, arith};
 ghost use Rattle.scalar.specs.BigEndian.{number, big_endian, Bytes};
-ghost use Rattle.scalar.specs.Kinds.{value_of, uint24, tag_bytes, tag};
-ghost use Rattle.scalar.specs.Laws.{number_big_endian, number_shown};
-ghost use Rattle.scalar.specs.Small.{same_uint24};
+ghost use Rattle.scalar.specs.Kinds.{value_of, uint24, checked, tag_bytes, tag};
+ghost use Rattle.scalar.specs.Laws.{as_number};
+ghost use Rattle.scalar.specs.Small.{uint24_again};
 ghost use Rattle.std.specs.Cmp.Lexicographic.{pointwise};
 ghost use Rattle.std.specs.Cmp.Rules.{comparing};
 ghost use Rattle.std.specs.Cmp as Keys;
 
-use super::{Tag, Uint24};
+use super::{Tag, Uint24, Uint24Overflow};
 use crate::{CountScalar, Scalar};
+
+impl TryFrom<u32> for Uint24 {
+    type Error = Uint24Overflow;
+
+    ghost try_from_gives = { λ value result. result ≡ checked value };
+
+    fn try_from(value: u32) -> Result<Uint24, Uint24Overflow> {
+        if value < 1 << 24 {
+            Ok(Uint24 { value })
+        } else {
+            Err(Uint24Overflow(value))
+        }
+    }
+}
+
+impl From<Uint24> for u32 {
+    ghost from_gives = { λ number result. result ≡ value_of number };
+
+    fn from(number: Uint24) -> u32 {
+        number.value
+    }
+}
 
 impl Uint24 {
     // The number, exactly if three bytes hold it.
     pub fn new_checked(value: u32) -> Option<Uint24>
         ensures { result ≡ (if nat_lt value (256 ^ 3) then Some (uint24 value) else None) }
     {
-        if value < 1 << 24 {
-            Some(Uint24 { value })
-        } else {
-            None
-        }
+        Uint24::try_from(value).ok()
     }
 
     // The number as a u32.
     pub fn to_u32(self) -> u32
         ensures { result ≡ value_of self }
     {
-        self.value
+        u32::from(self)
     }
 }
 
@@ -42,17 +60,7 @@ impl Scalar for Uint24 {
 
     ghost fits = { λ _. Unit {0} };
 
-    ghost wide = { Prim.search rules };
-
-    ghost short = { Prim.search rules };
-
-    ghost sized = { Prim.search rules };
-
-    ghost small = { Prim.search rules };
-
-    ghost back = { λ x u. same_uint24 _ _ (ap (λ (n : ℕ). n % 256 ^ 3) (number_big_endian 3 x.value ∙ mod-eq_of_lt x.small) ∙ mod-eq_of_lt x.small) };
-
-    ghost again = { λ bs l e. let shown = number_shown 3 bs l e in ap (big_endian 3) (mod-eq_of_lt shown.0) ∙ shown.1 };
+    ghost laws = { as_number 3 (λ _. Unit {0}) value_of uint24 (lit≤ tt) (lit≤ tt) (λ x _. x.small) (λ x _. uint24_again x) (λ _ l. mod-eq_of_lt l) };
 
     fn size() -> usize {
         3
@@ -78,17 +86,11 @@ impl CountScalar for Uint24 {
 
     ghost counting = { uint24 };
 
-    ghost largest = { Prim.search rules };
-
-    ghost held = { Prim.search rules };
-
-    ghost counted = { Prim.search rules };
+    ghost laws = { record { largest = Prim.search rules; held = Prim.search rules; counted = Prim.search rules } };
 
     fn from_count(n: usize) -> Option<Uint24> {
-        match u32::try_from(n) {
-            Ok(value) => Uint24::new_checked(value),
-            Err(_) => None,
-        }
+        let value = u32::try_from(n).ok()?;
+        Uint24::new_checked(value)
     }
 }
 
@@ -101,17 +103,7 @@ impl Scalar for Tag {
 
     ghost fits = { λ x. (length (tag_bytes x) ≡ 4) × Bytes (tag_bytes x) };
 
-    ghost wide = { Prim.search rules };
-
-    ghost short = { Prim.search rules };
-
-    ghost sized = { Prim.search rules };
-
-    ghost small = { Prim.search rules };
-
-    ghost back = { Prim.search rules };
-
-    ghost again = { Prim.search rules };
+    ghost laws = { record { wide = Prim.search rules; short = Prim.search rules; sized = Prim.search rules; small = Prim.search rules; back = Prim.search rules; again = Prim.search rules } };
 
     fn size() -> usize {
         4

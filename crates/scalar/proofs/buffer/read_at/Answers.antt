@@ -1,19 +1,13 @@
-use Rattle.std.proofs.Common.{ℕ, ◌+◌, sym, ap, ◌∙◌, rules}
-use Rattle.scalar.specs.Place.{room, part}
-use Rattle.scalar.proofs.Place.{read_front, read_bytes}
+use Rattle.std.proofs.Common.{◌≡◌, Some, ap, ◌∙◌, arith, rules}
+use Rattle.std.specs.Option.{option_map}
+use Rattle.std.proofs.lemmas.Grind.{common_steps}
+use Rattle.scalar.specs.Place.{read}
+use Rattle.scalar.proofs.Place.{bytes_read}
 use Rattle.scalar.proofs.buffer.read_at.Goals as goal
 
-pub returns : goal.returns
-returns g c =
-    let at = c.args.at in
-    let d = c.args.buf.now in
+pub returns-clause-bytes : goal.returns-clause-bytes
+returns-clause-bytes g c =
     let m = g.S.Scalar in
-    let has = ap (room d at) (sym c.size-size.ensures) ∙ sym c.if-not-has_room.ensures in
-    let copied = c.copy_from_slice.ensures.after ∙ ap (λ (s : ℕ). part d at (at + s)) c.size-size.ensures in
-    let front = c.copy_from_slice.new.self in
-    let read = c.from_raw.ensures.answer in
-    record {
-      answer = read_front m.reads d front _ at m.width c.from_raw.result has copied read;
-      bytes = read_bytes m.reads m.bytes d front _ at m.width c.from_raw.result g.met.S.Scalar.again (λ i. search rules) has copied read;
-      fits = c.from_raw.ensures.fits;
-    }
+    let d = c.args.buf.now in
+    let answer : Some c.from_raw.result ≡ read m.reads m.width d c.args.at = grind (arith, common_steps) in
+    ap (option_map m.bytes) answer ∙ bytes_read g.met.S.Scalar.laws d c.args.at (λ i. search rules)
