@@ -1,2 +1,0 @@
-mod Part
-mod Written
