@@ -2,7 +2,8 @@
 use Rattle.std.specs.Prelude.{◌≡◌, ℕ, ◌^◌, ◌<◌, List, length}
 use Rattle.std.proofs.Common.{◌∙◌, mod-eq_of_lt}
 use Rattle.scalar.specs.BigEndian.{number, big_endian, Bytes, Notation}
-use Rattle.scalar.specs.Laws.{length_big_endian, bytes_big_endian, number_big_endian, number_shown}
+use Rattle.scalar.specs.Laws.{length_big_endian, number_big_endian, number_shown}
+use Rattle.scalar.specs.Numbers.{bytes_big_endian}
 
 pub number_back : (w n : ℕ) → n < 256 ^ w → number (big_endian w n) ≡ n
 number_back w n l = number_big_endian w n ∙ mod-eq_of_lt l

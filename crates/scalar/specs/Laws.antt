@@ -1,16 +1,15 @@
 -- What the laws of the scalars rest on, for every width: the number that the bytes of a number show, and the bytes of the number that bytes show.
-use Rattle.std.specs.Prelude.{◌≡◌, ℕ, zero, suc, ◌+◌, ◌-◌, ◌*◌, ◌/◌, ◌%◌, ◌^◌, ◌<◌, ◌≤◌, false, List, [], ◌∷◌, length, refl}
+use Rattle.std.specs.Prelude.{◌≡◌, ℕ, zero, suc, ◌+◌, ◌*◌, ◌/◌, ◌%◌, ◌^◌, ◌<◌, List, [], ◌∷◌, length, refl}
 use Rattle.std.proofs.Common.{sym, ap, ◌∙◌, subst, mod-lt, mod-eq_of_lt, arith}
 use Rattle.std.proofs.Math.Nat.{one-le-pow, pow-succ', mod-one, mul-add-mod_self_right}
 use Rattle.std.proofs.Math.Arith.{mod-mul, digits_lt, digits_div, digits_mod}
 use Rattle.scalar.specs.BigEndian.{number, big_endian, Bytes}
-use Rattle.scalar.specs.Scalars.{ScalarLaws, CountLaws}
 
 pub length_big_endian : (w n : ℕ) → length (big_endian w n) ≡ w
 length_big_endian zero n = refl
 length_big_endian (suc k) n = ap suc (length_big_endian k n)
 
-pow_pos : (k : ℕ) → 0 < 256 ^ k
+pub pow_pos : (k : ℕ) → 0 < 256 ^ k
 pow_pos k = one-le-pow k 256 (omega arith)
 
 -- the lowest k + 1 bytes of n: one byte, then k
@@ -49,31 +48,3 @@ number_shown w (b ∷ bs) l e =
     ap (λ (x : ℕ). x ∷ big_endian (length bs) n) first
     ∙ ap (λ (xs : List ℕ). b ∷ xs) (big_endian_same (length bs) n (number bs) same ∙ rest.1) in
     subst (λ (k : ℕ). (n < 256 ^ k) × (big_endian k n ≡ b ∷ bs)) l (less, whole)
-
-pub bytes_big_endian : (w n : ℕ) → Bytes (big_endian w n)
-bytes_big_endian zero n = tt
-bytes_big_endian (suc k) n = (omega arith, bytes_big_endian k n)
-
--- a scalar that stands as a number of w bytes, and is one with that number, keeps the laws
-pub as_number : {S : Type 0} (w : ℕ) (fits : S → Type 0) (to : S → ℕ) (from : ℕ → S) → 1 ≤ w → w ≤ 4
-    → ((x : S) → fits x → to x < 256 ^ w) → ((x : S) → fits x → from (to x) ≡ x) → ((n : ℕ) → n < 256 ^ w → to (from n) ≡ n)
-    → ScalarLaws w (λ x. big_endian w (to x)) (λ bs. from (number bs)) fits
-as_number w fits to from l m below there back =
-    record {
-      wide = l;
-      short = m;
-      sized = λ x u. length_big_endian w (to x);
-      small = λ x u. bytes_big_endian w (to x);
-      back = λ x u. ap from (number_big_endian w (to x) ∙ mod-eq_of_lt (below x u)) ∙ there x u;
-      again = λ bs n e. let shown = number_shown w bs n e in ap (big_endian w) (back (number bs) shown.0) ∙ shown.1;
-    }
-
--- as an unsigned number of w bytes does
-pub unsigned : (w : ℕ) → 1 ≤ w → w ≤ 4 → ScalarLaws w (big_endian w) number (λ n. n < 256 ^ w)
-unsigned w l m = as_number w (λ n. n < 256 ^ w) (λ n. n) (λ n. n) l m (λ n u. u) (λ n u. refl) (λ n u. refl)
-
--- and every number that they hold is a count
-pub unsigned_counts : (w : ℕ) → CountLaws w (big_endian w) (λ n. n < 256 ^ w) false (256 ^ w - 1) (λ n. n)
-unsigned_counts w =
-    let some = pow_pos w in
-    record { largest = omega arith; held = λ n l. omega arith; counted = λ n l. refl }

@@ -3,7 +3,7 @@ ghost use Rattle.std.specs.Prelude.{◌-◌, ◌/◌, ◌^◌, ◌<◌, true, fa
 ghost use Rattle.std.proofs.Common.{to_z, of_z, rules, lit≤};
 ghost use Rattle.std.specs.Int.{w16};
 ghost use Rattle.scalar.specs.BigEndian.{number, big_endian};
-ghost use Rattle.scalar.specs.Laws.{as_number, unsigned, unsigned_counts};
+ghost use Rattle.scalar.specs.Numbers.{as_number, unsigned, unsigned_counts};
 ghost use Rattle.std.proofs.lemmas.Int.{of_z-to_z};
 
 use crate::{CountScalar, Scalar};

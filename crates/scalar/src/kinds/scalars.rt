@@ -4,7 +4,7 @@ ghost use Rattle.std.specs.Prelude.{◌≡◌, ℕ, ◌-◌, ◌%◌, ◌^◌, f
 ghost use Rattle.std.proofs.Common.{mod-eq_of_lt, lit≤, rules, arith};
 ghost use Rattle.scalar.specs.BigEndian.{number, big_endian, Bytes};
 ghost use Rattle.scalar.specs.Kinds.{value_of, uint24, checked, tag_bytes, tag};
-ghost use Rattle.scalar.specs.Laws.{as_number};
+ghost use Rattle.scalar.specs.Numbers.{as_number};
 ghost use Rattle.scalar.specs.Small.{uint24_again};
 ghost use Rattle.std.specs.Cmp.Lexicographic.{pointwise};
 ghost use Rattle.std.specs.Cmp.Rules.{comparing};
