@@ -34,11 +34,9 @@ pub fn read_at<S: Scalar>(buf: &[u8], at: usize) -> Option<S>
     ensures fits { IfSome result S.Scalar.fits }
 {
     let size = S::size();
-    if !has_room(buf.len(), at, size) {
-        return None;
-    }
+    let bytes = buf.get(at..at.checked_add(size)?)?;
     let mut raw = [0; 4];
-    raw[0..size].copy_from_slice(&buf[at..at + size]);
+    raw[0..size].copy_from_slice(bytes);
     Some(S::from_raw(raw))
 }
 

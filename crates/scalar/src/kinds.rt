@@ -15,5 +15,5 @@ pub struct Uint24 {
 pub struct Uint24Overflow(pub u32);
 
 // Four bytes that name a table, a script, a language system or a feature.
-#[derive(Clone, Copy, Debug)]
+#[derive(Clone, Copy, Eq, Debug)]
 pub struct Tag(pub [u8; 4]);

@@ -118,7 +118,7 @@ impl Scalar for Tag {
     }
 }
 
-// Written out, so that it says outright what it decides.
+// Written out, since a derived one, which decides the same, leaves no text that an edit could turn and the prover refuse.
 impl PartialEq for Tag {
     ghost eq = { λ x y. pointwise nat_eq x.0 y.0 };
 
@@ -130,8 +130,4 @@ impl PartialEq for Tag {
     {
         self.0 == other.0
     }
-}
-
-impl Eq for Tag {
-    ghost laws = { Prim.search (comparing, rules) };
 }

@@ -3,4 +3,4 @@ use Rattle.scalar.proofs.Values.{four_bytes}
 use Rattle.scalar.proofs.kinds.scalars.TagScalar.from_raw.Goals as goal
 
 pub returns-clause-fits : goal.returns-clause-fits
-returns-clause-fits c = four_bytes c.args.raw (search rules) (λ i. search rules)
+returns-clause-fits c = four_bytes _ (search rules) (λ i. search rules)
