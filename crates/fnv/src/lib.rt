@@ -5,6 +5,8 @@
 ghost use Rattle.std.specs.Prelude.{◌≡◌};
 ghost use Rattle.fnv.specs.Fnv.{offset_basis, fed, hashed_from, hashed};
 
+use std::hash::Hasher;
+
 const OFFSET_BASIS: u64 = 0xcbf2_9ce4_8422_2325;
 
 const FNV_PRIME: u64 = 0x0100_0000_01b3;
@@ -20,20 +22,25 @@ impl FnvHasher {
     {
         FnvHasher(OFFSET_BASIS)
     }
+}
+
+impl Hasher for FnvHasher {
+    ghost write = { λ hasher bytes. record { 0 = hashed_from hasher.0 bytes } };
+
+    ghost finish = { λ hasher. hasher.0 };
 
     // Feeds bytes, in their order.
-    pub fn write(&mut self, bytes: &[u8])
+    fn write(&mut self, bytes: &[u8])
         ensures state { self.new.0 ≡ hashed_from self.old.0 bytes.now }
     {
         self.0 = feed(self.0, bytes);
     }
 
     // The hash of all that was fed.
-    pub fn finish(&self) -> u64
+    fn finish(&self) -> u64
         ensures answer { result ≡ self.now.0 }
     {
-        let FnvHasher(hash) = *self;
-        hash
+        self.0
     }
 }
 

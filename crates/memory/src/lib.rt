@@ -9,6 +9,7 @@ ghost use Rattle.memory.specs.Move.{movable};
 
 use fnv::FnvHasher;
 use scalar::has_room;
+use std::hash::Hasher;
 
 // How many bytes of an object are hashed.
 const HASHED: usize = 128;
@@ -17,11 +18,7 @@ const HASHED: usize = 128;
 pub fn part_of(memory: &[u8], from: usize, to: usize) -> &[u8]
     ensures answer { result.now ≡ part memory.now from to }
 {
-    let end = to.min(memory.len());
-    if from >= end {
-        return &memory[0..0];
-    }
-    &memory[from..end]
+    memory.get(from..to.min(memory.len())).unwrap_or(&[])
 }
 
 // Whether two parts have the same bytes.
