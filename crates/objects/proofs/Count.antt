@@ -1,5 +1,5 @@
 -- How often a slot stands on a stack.
-use Rattle.std.proofs.Common.{◌≡◌, ℕ, zero, suc, ◌+◌, ◌<◌, ◌≤◌, Bool, cond, eqb, ltb, ◌≢◌, List, [], ◌∷◌, ◌++◌, length, get_or, sym, refl, ap, ◌∙◌, subst, inl, inr, arith}
+use Rattle.std.proofs.Common.{◌≡◌, ℕ, ◌+◌, ◌<◌, ◌≤◌, Bool, cond, eqb, ltb, ◌≢◌, List, [], ◌∷◌, ◌++◌, refl, ap, ◌∙◌, subst, inl, inr, arith}
 use Rattle.std.proofs.lemmas.Bool.{cases_eq, cases_lt, eq-eqb, ne_eqb, lt-ltb, le-ltb}
 use Rattle.link.specs.declared.PoolIdx.{PoolIdx}
 use Rattle.objects.specs.Slots.{occ}
@@ -43,31 +43,12 @@ used_more k n =
 
 -- ---- on a stack
 
-pub occ_push : (k : ℕ) (xs : List PoolIdx) (x : PoolIdx) → occ k (xs ++ x ∷ []) ≡ occ k xs + cond (eqb k x.0) 1 0
-occ_push k [] x = omega arith
-occ_push k (y ∷ ys) x = omega (arith, occ_push k ys x)
+pub occ_split : (k : ℕ) (xs : List PoolIdx) (x : PoolIdx) (ys : List PoolIdx) → occ k (xs ++ x ∷ ys) ≡ occ k xs + cond (eqb k x.0) 1 0 + occ k ys
+occ_split k [] x ys = omega arith
+occ_split k (y ∷ xs) x ys = omega (arith, occ_split k xs x ys)
 
 pub occ_top : (k : ℕ) (xs ys : List PoolIdx) (x : PoolIdx) → xs ≡ ys ++ x ∷ [] → occ k xs ≡ occ k ys + cond (eqb k x.0) 1 0
-occ_top k xs ys x e = ap (occ k) e ∙ occ_push k ys x
-
-pub occ_at : (xs : List PoolIdx) (k : ℕ) (d : PoolIdx) → k < length xs → 0 < occ (get_or xs k d).0 xs
-occ_at [] k d h = absurd (omega arith)
-occ_at (x ∷ xs) zero d h = omega (arith, here x.0)
-occ_at (x ∷ xs) (suc k) d h = omega (arith, occ_at xs k d (omega arith))
-
--- a slot that stands once stands at one place
-pub once_at : (xs : List PoolIdx) (j k : ℕ) (d : PoolIdx) → j < length xs → k < length xs → j ≢ k → occ (get_or xs k d).0 xs ≤ 1 → (get_or xs j d).0 ≢ (get_or xs k d).0
-once_at [] j k d h l n o e = absurd (omega arith)
-once_at (x ∷ xs) zero zero d h l n o e = n refl
-once_at (x ∷ xs) zero (suc k) d h l n o e =
-    let a = occ_at xs k d (omega arith) in
-    let b : ◌≡◌ {A = ℕ} (cond (eqb (get_or xs k d).0 x.0) 1 0) 1 = ap (λ (t : Bool). cond t 1 0) (eq-eqb (get_or xs k d).0 x.0 (sym e)) in
-    omega arith
-once_at (x ∷ xs) (suc j) zero d h l n o e =
-    let a : 0 < occ x.0 xs = subst (λ (m : ℕ). 0 < occ m xs) e (occ_at xs j d (omega arith)) in
-    let b = here x.0 in
-    omega arith
-once_at (x ∷ xs) (suc j) (suc k) d h l n o e = once_at xs j k d (omega arith) (omega arith) (λ q. n (ap suc q)) (omega arith) e
+occ_top k xs ys x e = omega (arith, ap (occ k) e, occ_split k ys x [])
 
 pub apart_of : (xs : List PoolIdx) (x j : ℕ) → occ x xs ≡ 0 → 0 < occ j xs → j ≢ x
 apart_of xs x j e h q = let z : occ j xs ≡ 0 = ap (λ (k : ℕ). occ k xs) q ∙ e in omega arith

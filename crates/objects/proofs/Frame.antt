@@ -1,13 +1,13 @@
 -- A change of one slot leaves the objects in other slots as they were.
 use Rattle.std.proofs.Common.{◌≡◌, ℕ, zero, suc, ◌+◌, ◌*◌, ◌<◌, ◌≤◌, Bool, true, false, cond, ◌≢◌, List, [], ◌∷◌, ◌++◌, map, reverse, length, get_or, set, sym, refl, ap, ◌∙◌, subst, arith}
-use Rattle.std.proofs.lemmas.List.{get_or-set_other, reverse-append, map_push, nil_from_length, length-set}
+use Rattle.std.proofs.lemmas.List.{get_or-set_other, reverse-append, map-append, append_assoc, nil_from_length, length-set}
 use Rattle.link.specs.declared.Link.{Link}
 use Rattle.link.specs.declared.PoolIdx.{PoolIdx}
 use Rattle.links.specs.Walk.{sum_of}
 use Rattle.model.specs.State.{Object}
 use Rattle.objects.specs.declared.extents.Extent.{Extent}
 use Rattle.objects.specs.Slots.{occ, held}
-use Rattle.objects.specs.Contents.{Parts, built, in_slot, stacked, nowhere}
+use Rattle.objects.specs.Contents.{Contents, Parts, meaning, built, in_slot, stacked, nowhere}
 use Rattle.objects.proofs.Count.{here, apart_of, not_outside}
 use Rattle.objects.proofs.Sound.{Sound}
 
@@ -41,11 +41,6 @@ touch ls x j l a b =
 pub touch_twice : {x : ℕ} {ls ks ms : List (List Link)} → Touch x ls ks → Touch x ks ms → Touch x ls ms
 touch_twice t u = record { long = u.long ∙ t.long; real = λ k n. u.real k n ∙ t.real k n; virtual = λ k n. u.virtual k n ∙ t.virtual k n }
 
--- changed, or left as they were
-pub touch_maybe : (x : ℕ) (ls ms ks : List (List Link)) (b : Bool) → Touch x ls ms → ks ≡ cond b ms ls → Touch x ls ks
-touch_maybe x ls ms ks true t e = subst (Touch x ls) (sym e) t
-touch_maybe x ls ms ks false t e = subst (Touch x ls) (sym e) (record { long = refl; real = λ k n. refl; virtual = λ k n. refl })
-
 -- the objects of a stack that the slot is not on
 pub frame_links : (es : List Extent) (ls ks : List (List Link)) (xs : List PoolIdx) (x : ℕ) → Touch x ls ks → occ x xs ≡ 0 → stacked es ks xs ≡ stacked es ls xs
 frame_links es ls ks xs x t h =
@@ -70,13 +65,27 @@ touched p x ks n w u o t =
           omega (arith, ap {B = ℕ} length (t.real k ne), ap {B = ℕ} length (t.virtual k ne), w.blank k h);
     }
 
--- ---- the top of a stack
+-- the links changed, or left as they were
+pub sound_if : (p : Parts) (b : Bool) (ms ks : List (List Link)) (n : ℕ) → Sound p → Sound (with_links p ms n) → ks ≡ cond b ms p.links → Sound (with_links p ks n)
+sound_if p true ms ks n w v e = subst (λ (ls : List (List Link)). Sound (with_links p ls n)) (sym e) v
+sound_if p false ms ks n w v e =
+    subst (λ (ls : List (List Link)). Sound (with_links p ls n)) (sym e) (record { sized = w.sized; paired = w.paired; counted = w.counted; roomy = w.roomy; apart = w.apart; blank = w.blank })
 
-pub stacked_push : (es : List Extent) (ls : List (List Link)) (xs : List PoolIdx) (x : PoolIdx) → stacked es ls (xs ++ x ∷ []) ≡ in_slot es ls x ∷ stacked es ls xs
-stacked_push es ls xs x = ap reverse (map_push (in_slot es ls) xs x) ∙ reverse-append (map (in_slot es ls) xs) (in_slot es ls x ∷ [])
+pub means_if : (p : Parts) (b : Bool) (ms ks : List (List Link)) (n : ℕ) (z : Contents) → ks ≡ cond b ms p.links → n ≡ p.cells → meaning (with_links p ms n) ≡ z → meaning (with_links p ks n) ≡ cond b z (meaning p)
+means_if p true ms ks n z e c f = ap (λ (v : List (List Link)). meaning (with_links p v n)) e ∙ f
+means_if p false ms ks n z e c f = ap (λ (v : List (List Link)). meaning (with_links p v n)) e ∙ ap (λ (m : ℕ). meaning (with_links p p.links m)) c
+
+-- ---- the objects of a stack
+
+-- what lies above a slot, its object, and what lies below it
+pub stacked_split : (es : List Extent) (ls : List (List Link)) (xs : List PoolIdx) (x : PoolIdx) (ys : List PoolIdx) → stacked es ls (xs ++ x ∷ ys) ≡ stacked es ls ys ++ in_slot es ls x ∷ stacked es ls xs
+stacked_split es ls xs x ys =
+    let f : PoolIdx → Object = in_slot es ls in
+    let r : reverse (f x ∷ map f ys) ≡ reverse (map f ys) ++ f x ∷ [] = reverse-append (f x ∷ []) (map f ys) in
+    ap reverse (map-append f xs (x ∷ ys)) ∙ reverse-append (map f xs) (f x ∷ map f ys) ∙ ap (λ (v : List Object). v ++ reverse (map f xs)) r ∙ append_assoc (reverse (map f ys)) (f x ∷ []) (reverse (map f xs))
 
 pub stacked_top : (es : List Extent) (ls : List (List Link)) (ys xs : List PoolIdx) (x : PoolIdx) → ys ≡ xs ++ x ∷ [] → stacked es ls ys ≡ in_slot es ls x ∷ stacked es ls xs
-stacked_top es ls ys xs x e = ap (stacked es ls) e ∙ stacked_push es ls xs x
+stacked_top es ls ys xs x e = ap (stacked es ls) e ∙ stacked_split es ls xs x []
 
 -- the object of a slot that has no links
 pub blank_slot : (ls : List (List Link)) (x : PoolIdx) (e : Extent) → held ls x.0 ≡ 0 → built x e (get_or ls (2 * x.0) []) (get_or ls (2 * x.0 + 1) []) ≡ built x e [] []

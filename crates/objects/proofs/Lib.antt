@@ -2,9 +2,9 @@ mod Count
 mod Sound
 mod Frame
 mod Stack
-mod Number
+mod Place
 mod Relink
+mod Steps
 mod Release
 mod Reading
 mod Fresh
-mod HandOver

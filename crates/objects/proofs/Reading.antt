@@ -1,6 +1,6 @@
 -- What is read of lists of links: their lengths, their last link, and whether two are equal.
-use Rattle.std.proofs.Common.{◌≡◌, ℕ, suc, ◌-◌, Bool, true, false, eqb, List, [], ◌∷◌, length, get_or, Decides, Option, unwrap_or, sym, refl, ap, ◌∙◌, inl, inr, arith}
-use Rattle.std.specs.Option.{option_map}
+use Rattle.std.proofs.Common.{◌≡◌, ℕ, suc, ◌-◌, ◌<◌, Bool, true, false, eqb, List, [], ◌∷◌, length, get_or, Decides, IfSome, MatchOption, Some, None, Option, unwrap_or, sym, refl, ap, ◌∙◌, subst, inl, inr, arith}
+use Rattle.std.specs.Option.{option_map, option_zip}
 use Rattle.std.specs.List.{slice_get}
 use Rattle.std.proofs.lemmas.List.{get_or_past}
 use Rattle.std.proofs.lemmas.Option.{slice_get-get_or, slice_get_past}
@@ -12,6 +12,12 @@ use Rattle.link.specs.declared.OffsetWhence.{OffsetWhence}
 use Rattle.link.specs.declared.OffsetWhence.TheVariants.{Head, Tail, Absolute}
 use Rattle.link.specs.Feed.{whence_code}
 use Rattle.link.specs.Width.{bytes_of_width}
+use Rattle.model.specs.State.{Object}
+use Rattle.objects.specs.declared.extents.Kind.{Kind}
+use Rattle.objects.specs.declared.extents.Kind.TheVariants.{Real, Virtual}
+use Rattle.objects.specs.Kinds.{of_kind, links_in}
+use Rattle.objects.specs.Change.{alike}
+use Rattle.model.specs.Reading.{real_of}
 use Rattle.model.specs.Closing.{same_link, same_links, same_mark}
 use Rattle.model.specs.Linking.{last_number}
 
@@ -23,13 +29,22 @@ length_is ls j n r e f =
       | inr h ↦ ap (λ (o : Option (List Link)). unwrap_or (option_map length o) 0) (slice_get_past ls j h) ∙ sym (ap length (get_or_past ls j [] h))
     ]
 
+-- the links of a kind, read where there is an object
+pub read_is : (k : Kind) (o : Option Object) (ls : List Link) → Some ls ≡ option_map (of_kind k) o → ls ≡ links_in k o
+read_is k None ls e = absurd (cc)
+read_is Real (Some o) ls e = cc
+read_is Virtual (Some o) ls e = cc
+
 -- the number of the last link
-pub last_is : (xs : List Link) → option_map (λ l. l.objidx) (slice_get xs (length xs - 1)) ≡ last_number xs
+last_is : (xs : List Link) → option_map (λ l. l.objidx) (slice_get xs (length xs - 1)) ≡ last_number xs
 last_is [] = refl
 last_is (x ∷ []) = refl
 last_is (x ∷ (y ∷ ys)) =
     let e : length (x ∷ (y ∷ ys)) - 1 ≡ suc (length (y ∷ ys) - 1) = omega arith in
     ap (λ (n : ℕ). option_map (λ l. l.objidx) (slice_get (x ∷ (y ∷ ys)) n)) e ∙ last_is (y ∷ ys)
+
+pub last_child_is : (o : Option Object) (ls : List Link) (r : Option Link) → Some ls ≡ option_map (of_kind Real) o → r ≡ slice_get ls (length ls - 1) → option_map (λ (l : Link). l.objidx) r ≡ last_number (real_of o)
+last_child_is o ls r e f = ap (option_map (λ (l : Link). l.objidx)) f ∙ last_is ls ∙ ap last_number (read_is Real o ls e)
 
 -- ---- equal links
 
@@ -111,6 +126,21 @@ links_same (x ∷ xs) (y ∷ ys) e =
     λ z. a z ∷ b z
 
 -- what decides whether they are equal
-pub same_is : (b : Bool) (xs ys : List Link) (A B : Type 0) → A → B → Decides b (A × B × (xs ≡ ys)) → b ≡ same_links xs ys
+same_is : (b : Bool) (xs ys : List Link) (A B : Type 0) → A → B → Decides b (A × B × (xs ≡ ys)) → b ≡ same_links xs ys
 same_is true xs ys A B p q d = sym (ap (same_links xs) (sym (d.0 refl).2) ∙ links_here xs)
 same_is false xs ys A B p q d = elim (cases_Bool (same_links xs ys)) [ inl e ↦ absurd (false≢true (d.1 (p, q, links_same xs ys e))) | inr e ↦ sym e ]
+
+-- the real links of two objects, read where there are both
+pub alike_is : (ls : List (List Link)) (o p : Option Object) (a b : Option ℕ) (z : Option (ℕ × ℕ)) (r : Bool) → z ≡ option_zip a b → option_map (λ j. get_or ls j []) a ≡ option_map (of_kind Real) o → option_map (λ j. get_or ls j []) b ≡ option_map (of_kind Real) p
+    → IfSome a (λ j. j < length ls) → IfSome b (λ j. j < length ls) → MatchOption z (r ≡ false) (λ x. Decides r ((x.0 < length ls) × (x.1 < length ls) × (get_or ls x.0 [] ≡ get_or ls x.1 []))) → r ≡ alike o p
+alike_is ls (Some o) (Some p) (Some i) (Some j) z r e f g h k d =
+    let d' = subst (λ (v : Option (ℕ × ℕ)). MatchOption v (r ≡ false) (λ x. Decides r ((x.0 < length ls) × (x.1 < length ls) × (get_or ls x.0 [] ≡ get_or ls x.1 [])))) e d in
+    let l : get_or ls i [] ≡ o.real = cc in
+    let m : get_or ls j [] ≡ p.real = cc in
+    same_is r (get_or ls i []) (get_or ls j []) _ _ h k d' ∙ ap (λ (v : List Link). same_links v (get_or ls j [])) l ∙ ap (same_links o.real) m
+alike_is ls (Some o) (Some p) (Some i) None z r e f g h k d = absurd (cc)
+alike_is ls (Some o) None (Some i) (Some j) z r e f g h k d = absurd (cc)
+alike_is ls (Some o) None (Some i) None z r e f g h k d = subst (λ (v : Option (ℕ × ℕ)). MatchOption v (r ≡ false) (λ x. Decides r ((x.0 < length ls) × (x.1 < length ls) × (get_or ls x.0 [] ≡ get_or ls x.1 [])))) e d
+alike_is ls (Some o) p None b z r e f g h k d = absurd (cc)
+alike_is ls None p (Some i) b z r e f g h k d = absurd (cc)
+alike_is ls None p None b z r e f g h k d = subst (λ (v : Option (ℕ × ℕ)). MatchOption v (r ≡ false) (λ x. Decides r ((x.0 < length ls) × (x.1 < length ls) × (get_or ls x.0 [] ≡ get_or ls x.1 [])))) e d

@@ -1,155 +1,92 @@
--- The links of the innermost object, or of a packed one, changed: the fields stay sound, and what the objects are then.
-use Rattle.std.proofs.Common.{◌≡◌, ℕ, suc, ◌+◌, ◌-◌, ◌*◌, ◌<◌, Bool, true, false, cond, ◌&&◌, ltb, List, [], ◌∷◌, ◌++◌, reverse, length, get_or, take, set, Some, sym, refl, ap, ◌∙◌, arith}
-use Rattle.std.proofs.lemmas.List.{get_or-set_same, get_or-set_other, length-set, length_push, length-take}
-use Rattle.std.proofs.lemmas.Bool.{lt-ltb}
+-- One list of links of the object that is meant changed: the fields stay sound, and what the objects are then.
+use Rattle.std.proofs.Common.{◌≡◌, ℕ, ◌+◌, ◌-◌, ◌*◌, ◌<◌, List, [], ◌∷◌, ◌++◌, reverse, length, get_or, set, Some, sym, refl, ap, ◌∙◌, arith}
+use Rattle.std.specs.List.{slice_get}
+use Rattle.std.proofs.lemmas.List.{get_or-set_same, get_or-set_other}
 use Rattle.link.specs.declared.Link.{Link}
-use Rattle.link.specs.declared.ObjIdx.{ObjIdx}
 use Rattle.link.specs.declared.PoolIdx.{PoolIdx}
 use Rattle.links.specs.Walk.{sum_of}
-use Rattle.model.specs.State.{Object, Pool}
-use Rattle.model.specs.Linking.{extend, extend_virtual, virtual_to}
-use Rattle.model.specs.Rewinding.{cut_first, cut_cells}
+use Rattle.model.specs.State.{Object}
+use Rattle.objects.specs.declared.extents.Extent.{Extent}
+use Rattle.objects.specs.declared.extents.Kind.{Kind}
+use Rattle.objects.specs.declared.extents.Kind.TheVariants.{Real, Virtual}
+use Rattle.objects.specs.declared.extents.Which.{Which}
+use Rattle.objects.specs.declared.extents.Which.TheVariants.{Innermost, LastPacked, Numbered}
 use Rattle.objects.specs.Slots.{occ}
-use Rattle.objects.specs.Contents.{Contents, Parts, meaning, built, in_slot, stacked, nowhere}
-use Rattle.objects.specs.Change.{linked, linked_virtual, ordered, cuts}
-use Rattle.objects.specs.Loose.{Place, below}
-use Rattle.objects.proofs.Count.{here, occ_top}
-use Rattle.objects.proofs.Sound.{Sound, once}
-use Rattle.objects.proofs.Frame.{Touch, touch, touch_twice, frame_links, with_links, touched, stacked_top, sum_set}
+use Rattle.objects.specs.Contents.{Parts, meaning, in_slot, stacked, nowhere}
+use Rattle.objects.specs.Kinds.{list_number, of_kind, with_kind}
+use Rattle.objects.specs.Steps.{at_first, at_number, changes, counts}
+use Rattle.objects.specs.Loose.{slot_at}
+use Rattle.objects.proofs.Count.{here, occ_split}
+use Rattle.objects.proofs.Sound.{Sound}
+use Rattle.objects.proofs.Frame.{Touch, touch, frame_links, with_links, touched, stacked_split}
 use Rattle.objects.proofs.Stack.{same_contents}
-use Rattle.objects.proofs.Number.{Lent, lent, numbered_once}
+use Rattle.objects.proofs.Place.{at, at_occ, stacked_length, changed_split, top_changed, stands}
 
-abbrev pub Innermost : Parts → PoolIdx → Type 0
-Innermost p x = p.opened ≡ below p.opened ++ x ∷ []
+-- ---- one list of a slot
 
--- what the pool is once another number of cells is in use
-abbrev pooled : Parts → ℕ → Pool
-pooled p n = record { released = reverse p.released; used = p.used; slots = p.slots; linked = n; cells = p.cells }
+pub set_touch : (k : Kind) (x : PoolIdx) (ls : List (List Link)) (v : List Link) → Touch x.0 ls (set ls (list_number k x) v)
+set_touch Real x ls v = touch ls x.0 (2 * x.0) v (omega arith) (omega arith)
+set_touch Virtual x ls v = touch ls x.0 (2 * x.0 + 1) v (omega arith) (omega arith)
 
--- a list that gets a link more
-abbrev pub appended : List (List Link) → ℕ → Link → List (List Link)
-appended ls j l = set ls j (get_or ls j [] ++ l ∷ [])
+pub kind_is : (k : Kind) (x : PoolIdx) (es : List Extent) (ls : List (List Link)) → of_kind k (in_slot es ls x) ≡ get_or ls (list_number k x) []
+kind_is Real x es ls = refl
+kind_is Virtual x es ls = refl
 
-appended_sum : (ls : List (List Link)) (j : ℕ) (l : Link) → j < length ls → sum_of length (appended ls j l) ≡ suc (sum_of length ls)
-appended_sum ls j l h = omega (arith, sum_set ls j (get_or ls j [] ++ l ∷ []) h, length_push (get_or ls j []) l)
+pub number_in : (k : Kind) (x : PoolIdx) (n : ℕ) → 2 * x.0 + 1 < n → list_number k x < n
+number_in Real x n h = omega arith
+number_in Virtual x n h = h
 
--- the lists of a slot with their first links only
-abbrev pub pruned : List (List Link) → ℕ → ℕ → ℕ → List (List Link)
-pruned ls x a b = set (set ls (2 * x) (take a (get_or ls (2 * x) []))) (2 * x + 1) (take b (get_or (set ls (2 * x) (take a (get_or ls (2 * x) []))) (2 * x + 1) []))
+pub set_kind : (k : Kind) (x : PoolIdx) (es : List Extent) (ls : List (List Link)) (v : List Link) → 2 * x.0 + 1 < length ls → in_slot es (set ls (list_number k x) v) x ≡ with_kind k v (in_slot es ls x)
+set_kind Real x es ls v h =
+    let a = get_or-set_same ls (2 * x.0) v [] (omega arith) in
+    let b = get_or-set_other ls (2 * x.0) (2 * x.0 + 1) v [] (λ e. omega arith) in
+    let e : Extent = get_or es x.0 nowhere in
+    λ i. record { slot = x; head = e.head; tail = e.tail; real = a i; virtual = b i }
+set_kind Virtual x es ls v h =
+    let a = get_or-set_other ls (2 * x.0 + 1) (2 * x.0) v [] (λ e. omega arith) in
+    let b = get_or-set_same ls (2 * x.0 + 1) v [] h in
+    let e : Extent = get_or es x.0 nowhere in
+    λ i. record { slot = x; head = e.head; tail = e.tail; real = a i; virtual = b i }
 
-module _ (ls : List (List Link)) (x a b : ℕ) where
-  second : get_or (set ls (2 * x) (take a (get_or ls (2 * x) []))) (2 * x + 1) [] ≡ get_or ls (2 * x + 1) []
-  second = get_or-set_other ls (2 * x) (2 * x + 1) (take a (get_or ls (2 * x) [])) [] (λ z. omega arith)
+-- ---- the object in a slot changed by f, and no other
 
-  pub pruned_is : (ms ks : List (List Link)) (i j : ℕ) → ms ≡ set ls i (take a (get_or ls i [])) → ks ≡ set ms j (take b (get_or ms j [])) → i ≡ 2 * x → j ≡ 2 * x + 1 → ks ≡ pruned ls x a b
-  pruned_is ms ks i j e f g h =
-      let m : ms ≡ set ls (2 * x) (take a (get_or ls (2 * x) [])) = e ∙ ap (λ (n : ℕ). set ls n (take a (get_or ls n []))) g in
-      f ∙ ap (λ (v : List (List Link)). set v j (take b (get_or v j []))) m ∙ ap (λ (n : ℕ). set (set ls (2 * x) (take a (get_or ls (2 * x) []))) n (take b (get_or (set ls (2 * x) (take a (get_or ls (2 * x) []))) n []))) h
+module _ (es : List Extent) (ls ks : List (List Link)) (x : PoolIdx) (t : Touch x.0 ls ks) (f : Object → Object) (e : in_slot es ks x ≡ f (in_slot es ls x)) where
+  on_stack : (xs : List PoolIdx) (k : ℕ) → slice_get xs k ≡ Some x → occ x.0 xs ≡ 1 → stacked es ks xs ≡ at_number f k (stacked es ls xs)
+  on_stack xs k g o =
+      let a = at xs k x g in
+      let n = ap (occ x.0) a.is in
+      let m = occ_split x.0 a.below x a.above in
+      let h = here x.0 in
+      let l : length (stacked es ls a.below) ≡ k = stacked_length es ls a.below ∙ a.place in
+      ap (stacked es ks) a.is ∙ stacked_split es ks a.below x a.above
+      ∙ ap (λ (v : List Object). v ++ in_slot es ks x ∷ stacked es ks a.below) (frame_links es ls ks a.above x.0 t (omega arith))
+      ∙ ap (λ (v : List Object). stacked es ls a.above ++ in_slot es ks x ∷ v) (frame_links es ls ks a.below x.0 t (omega arith))
+      ∙ ap (λ (v : Object). stacked es ls a.above ++ v ∷ stacked es ls a.below) e
+      ∙ sym (changed_split (in_slot es ls x) (stacked es ls a.below) k l f (stacked es ls a.above))
+      ∙ sym (ap (λ (v : List PoolIdx). at_number f k (stacked es ls v)) a.is ∙ ap (at_number f k) (stacked_split es ls a.below x a.above))
 
-  pub pruned_touch : Touch x ls (pruned ls x a b)
-  pruned_touch = touch_twice (touch ls x (2 * x) _ (omega arith) (omega arith)) (touch (set ls (2 * x) (take a (get_or ls (2 * x) []))) x (2 * x + 1) _ (omega arith) (omega arith))
+  on_top : (xs : List PoolIdx) → slice_get xs (length xs - 1) ≡ Some x → occ x.0 xs ≡ 1 → stacked es ks xs ≡ at_first f (stacked es ls xs)
+  on_top xs g o =
+      on_stack xs (length xs - 1) g o ∙ ap (λ (n : ℕ). at_number f (n - 1) (stacked es ls xs)) (sym (stacked_length es ls xs)) ∙ sym (top_changed f (stacked es ls xs))
 
-  pruned_real : 2 * x + 1 < length ls → get_or (pruned ls x a b) (2 * x) [] ≡ take a (get_or ls (2 * x) [])
-  pruned_real h = get_or-set_other (set ls (2 * x) (take a (get_or ls (2 * x) []))) (2 * x + 1) (2 * x) _ [] (λ z. omega arith) ∙ get_or-set_same ls (2 * x) _ [] (omega arith)
+module _ (p : Parts) (s : Sound p) (x : PoolIdx) (ks : List (List Link)) (t : Touch x.0 p.links ks) (n : ℕ) where
+  pub relinked_sound : (w : Which) → slot_at w p ≡ Some x → Sound (with_links p ks n)
+  relinked_sound w g = let o = stands w p x s g in touched p x.0 ks n s o.taken o.not_released t
 
-  pruned_virtual : 2 * x + 1 < length ls → get_or (pruned ls x a b) (2 * x + 1) [] ≡ take b (get_or ls (2 * x + 1) [])
-  pruned_virtual h =
-      get_or-set_same (set ls (2 * x) (take a (get_or ls (2 * x) []))) (2 * x + 1) _ [] (omega (arith, length-set ls (2 * x) (take a (get_or ls (2 * x) [])))) ∙ ap (take b) second
-
-  pruned_sum : 2 * x + 1 < length ls → sum_of length (pruned ls x a b) ≡ sum_of length ls - (length (get_or ls (2 * x) []) - a) - (length (get_or ls (2 * x + 1) []) - b)
-  pruned_sum h =
-      let ms : List (List Link) = set ls (2 * x) (take a (get_or ls (2 * x) [])) in
-      let s₁ = sum_set ls (2 * x) (take a (get_or ls (2 * x) [])) (omega arith) in
-      let s₂ = sum_set ms (2 * x + 1) (take b (get_or ms (2 * x + 1) [])) (omega (arith, length-set ls (2 * x) (take a (get_or ls (2 * x) [])))) in
-      let l₁ = length-take a (get_or ls (2 * x) []) in
-      let l₂ = length-take b (get_or ms (2 * x + 1) []) in
-      let l₃ = ap {B = ℕ} length second in
-      omega arith
-
--- the answer of a link added to a list that there is
-pub room_answer : (b : Bool) (j n : ℕ) (t : Bool) → b ≡ (ltb j n && t) → j < n → b ≡ t
-room_answer b j n t e h = e ∙ ap (λ (s : Bool). s && t) (lt-ltb j n h)
-
--- the lists after a link was added, where one was
-pub added : (b : Bool) (ls ks : List (List Link)) (j i : ℕ) (l m : Link) → ks ≡ cond b (appended ls j l) ls → j ≡ i → l ≡ m → ks ≡ cond b (appended ls i m) ls
-added b ls ks j i l m e f g = e ∙ ap (λ (k : ℕ). cond b (appended ls k l) ls) f ∙ ap (λ (k : Link). cond b (appended ls i k) ls) g
-
--- the contents after it
-pub added_means : (p : Parts) (b : Bool) (ms ks : List (List Link)) (n : ℕ) (z : Contents) → ks ≡ cond b ms p.links → n ≡ p.cells → meaning (with_links p ms n) ≡ z → meaning (with_links p ks n) ≡ cond b z (meaning p)
-added_means p true ms ks n z e c f = ap (λ (v : List (List Link)). meaning (with_links p v n)) e ∙ f
-added_means p false ms ks n z e c f = ap (λ (v : List (List Link)). meaning (with_links p v n)) e ∙ ap (λ (m : ℕ). meaning (with_links p p.links m)) c
-
-module _ (p : Parts) (w : Sound p) where
-  pub lists_of : (x : PoolIdx) → x.0 < p.used → 2 * x.0 + 1 < length p.links
-  lists_of x h = omega (arith, w.roomy, w.paired)
-
-  -- ---- the innermost object
-
-  module _ (x : PoolIdx) (top : Innermost p x) where
-    pub top_once : (x.0 < p.used) × (occ x.0 (below p.opened) ≡ 0) × (occ x.0 p.packed ≡ 0) × (occ x.0 p.released ≡ 0)
-    top_once =
-        let o = occ_top x.0 p.opened (below p.opened) x top in
-        let h = here x.0 in
-        let s = once p x.0 w (omega arith) in
-        (s.0, omega (arith, s.1), omega (arith, s.1), omega (arith, s.1))
-
-    pub relinked_sound : (ks : List (List Link)) (n : ℕ) → Touch x.0 p.links ks → Sound (with_links p ks n)
-    relinked_sound ks n t = touched p x.0 ks n w top_once.0 top_once.3 t
-
-    pub relinked_top : (ks : List (List Link)) (rs vs : List Link) → Touch x.0 p.links ks → get_or ks (2 * x.0) [] ≡ rs → get_or ks (2 * x.0 + 1) [] ≡ vs
-        → stacked p.extents ks p.opened ≡ built x (get_or p.extents x.0 nowhere) rs vs ∷ stacked p.extents p.links (below p.opened)
-    relinked_top ks rs vs t e f =
-        stacked_top p.extents ks p.opened (below p.opened) x top
-        ∙ ap (λ (v : List Object). in_slot p.extents ks x ∷ v) (frame_links p.extents p.links ks (below p.opened) x.0 t top_once.1)
-        ∙ ap (λ (v : List Link). built x (get_or p.extents x.0 nowhere) v (get_or ks (2 * x.0 + 1) []) ∷ stacked p.extents p.links (below p.opened)) e
-        ∙ ap (λ (v : List Link). built x (get_or p.extents x.0 nowhere) rs v ∷ stacked p.extents p.links (below p.opened)) f
-
-    -- F is what the call does to the open objects
-    relinked : (F : List Object → List Object) (ks : List (List Link)) (rs vs : List Link) (m n : ℕ) → Touch x.0 p.links ks → get_or ks (2 * x.0) [] ≡ rs → get_or ks (2 * x.0 + 1) [] ≡ vs → sum_of length ks ≡ m → n ≡ p.cells
-        → built x (get_or p.extents x.0 nowhere) rs vs ∷ stacked p.extents p.links (below p.opened) ≡ F (in_slot p.extents p.links x ∷ stacked p.extents p.links (below p.opened))
-        → meaning (with_links p ks n) ≡ record { opened = F (meaning p).opened; packed = (meaning p).packed; pool = pooled p m }
-    relinked F ks rs vs m n t e f s c g =
-        same_contents (relinked_top ks rs vs t e f ∙ g ∙ sym (ap F (stacked_top p.extents p.links p.opened (below p.opened) x top))) (frame_links p.extents p.links ks p.packed x.0 t top_once.2)
-        (λ i. record { released = reverse p.released; used = p.used; slots = p.slots; linked = s i; cells = c i })
-
-    pub linked_top_real : (l : Link) (n : ℕ) → n ≡ p.cells → meaning (with_links p (appended p.links (2 * x.0) l) n) ≡ linked l (meaning p)
-    linked_top_real l n c =
-        let h = lists_of x top_once.0 in
-        relinked (extend l) (appended p.links (2 * x.0) l) _ _ _ n (touch p.links x.0 (2 * x.0) _ (omega arith) (omega arith)) (get_or-set_same p.links (2 * x.0) _ [] (omega arith))
-        (get_or-set_other p.links (2 * x.0) (2 * x.0 + 1) _ [] (λ e. omega arith)) (appended_sum p.links (2 * x.0) l (omega arith)) c refl
-
-    pub linked_top_virtual : (k : ObjIdx) (n : ℕ) → n ≡ p.cells → meaning (with_links p (appended p.links (2 * x.0 + 1) (virtual_to k)) n) ≡ linked_virtual k (meaning p)
-    linked_top_virtual k n c =
-        let h = lists_of x top_once.0 in
-        relinked (extend_virtual k) (appended p.links (2 * x.0 + 1) (virtual_to k)) _ _ _ n (touch p.links x.0 (2 * x.0 + 1) _ (omega arith) (omega arith)) (get_or-set_other p.links (2 * x.0 + 1) (2 * x.0) _ [] (λ e. omega arith))
-        (get_or-set_same p.links (2 * x.0 + 1) _ [] h) (appended_sum p.links (2 * x.0 + 1) (virtual_to k) h) c refl
-
-    pub cut_back : (a b : ℕ) (ks : List (List Link)) (n : ℕ) → ks ≡ pruned p.links x.0 a b → n ≡ p.cells → meaning (with_links p ks n) ≡ cuts a b (meaning p)
-    cut_back a b ks n e c =
-        let h = lists_of x top_once.0 in
-        let s = stacked_top p.extents p.links p.opened (below p.opened) x top in
-        ap (λ (v : List (List Link)). meaning (with_links p v n)) e
-        ∙ relinked (cut_first a b) (pruned p.links x.0 a b) _ _ _ n (pruned_touch p.links x.0 a b) (pruned_real p.links x.0 a b h) (pruned_virtual p.links x.0 a b h)
-        (pruned_sum p.links x.0 a b h ∙ sym (ap (λ (v : List Object). cut_cells a b v (sum_of length p.links)) s)) c refl
-
-  -- ---- a packed object
-
-  module _ (k : ℕ) (t : PoolIdx) (at : Place p.packed k (Some t)) where
-    pub lent_virtual : (vs : List Link) → Lent t.0 vs p.links (set p.links (2 * t.0 + 1) (get_or p.links (2 * t.0 + 1) [] ++ vs))
-    lent_virtual vs =
-        record {
-          touch = touch p.links t.0 (2 * t.0 + 1) _ (omega arith) (omega arith);
-          real = get_or-set_other p.links (2 * t.0 + 1) (2 * t.0) _ [] (λ e. omega arith);
-          virtual = get_or-set_same p.links (2 * t.0 + 1) _ [] (lists_of t (numbered_once p k t w at).0);
-        }
-
-    pub lent_sound : (vs : List Link) (n : ℕ) → Sound (with_links p (set p.links (2 * t.0 + 1) (get_or p.links (2 * t.0 + 1) [] ++ vs)) n)
-    lent_sound vs n = let o = numbered_once p k t w at in touched p t.0 _ n w o.0 o.3 (lent_virtual vs).touch
-
-    pub linked_packed : (i : ObjIdx) (n : ℕ) → n ≡ p.cells → meaning (with_links p (appended p.links (2 * t.0 + 1) (virtual_to i)) n) ≡ ordered i k (meaning p)
-    linked_packed i n c =
-        let o = numbered_once p k t w at in
-        let v = lent_virtual (virtual_to i ∷ []) in
-        let s = appended_sum p.links (2 * t.0 + 1) (virtual_to i) (lists_of t o.0) in
-        same_contents (frame_links p.extents p.links _ p.opened t.0 v.touch o.2) (lent p.extents p.links _ (virtual_to i ∷ []) t v p.packed k at o.1)
-        (λ z. record { released = reverse p.released; used = p.used; slots = p.slots; linked = s z; cells = c z })
+  pub relinked : (w : Which) (f : Object → Object) (m : ℕ) → slot_at w p ≡ Some x → in_slot p.extents ks x ≡ f (in_slot p.extents p.links x) → sum_of length ks ≡ m → n ≡ p.cells
+      → meaning (with_links p ks n) ≡ counts m (changes w f (meaning p))
+  relinked Innermost f m g e u c =
+      let o = stands Innermost p x s g in
+      let q = at_occ p.opened (length p.opened - 1) x g in
+      same_contents (on_top p.extents p.links ks x t f e p.opened g (omega (arith, o.once))) (frame_links p.extents p.links ks p.packed x.0 t (omega (arith, o.once)))
+      (λ i. record { released = reverse p.released; used = p.used; slots = p.slots; linked = u i; cells = c i })
+  relinked LastPacked f m g e u c =
+      let o = stands LastPacked p x s g in
+      let q = at_occ p.packed (length p.packed - 1) x g in
+      same_contents (frame_links p.extents p.links ks p.opened x.0 t (omega (arith, o.once))) (on_top p.extents p.links ks x t f e p.packed g (omega (arith, o.once)))
+      (λ i. record { released = reverse p.released; used = p.used; slots = p.slots; linked = u i; cells = c i })
+  relinked (Numbered k) f m g e u c =
+      let o = stands (Numbered k) p x s g in
+      let q = at_occ p.packed k.0 x g in
+      same_contents (frame_links p.extents p.links ks p.opened x.0 t (omega (arith, o.once))) (on_stack p.extents p.links ks x t f e p.packed k.0 g (omega (arith, o.once)))
+      (λ i. record { released = reverse p.released; used = p.used; slots = p.slots; linked = u i; cells = c i })

@@ -1,6 +1,6 @@
 -- A slot taken from the top of a stack, or put on one: the fields stay sound, and what the objects are then.
-use Rattle.std.proofs.Common.{◌≡◌, ℕ, ◌+◌, ◌-◌, ◌*◌, ◌<◌, ◌≤◌, List, [], ◌∷◌, ◌++◌, length, get_or, set, IfSome, Some, None, Option, sym, refl, ap, ◌∙◌, arith, MatchOption}
-use Rattle.std.proofs.lemmas.List.{get_or-set_same, length-set, length_push, take_more, take_all, nil_from_length}
+use Rattle.std.proofs.Common.{◌≡◌, ℕ, ◌+◌, ◌*◌, ◌≤◌, List, [], ◌∷◌, ◌++◌, length, get_or, set, IfSome, Some, None, Option, sym, refl, ap, ◌∙◌, arith, MatchOption}
+use Rattle.std.proofs.lemmas.List.{get_or-set_same, length-set, length_push, nil_from_length}
 use Rattle.std.specs.Option.{option_map, option_to_list}
 use Rattle.link.specs.declared.Link.{Link}
 use Rattle.link.specs.declared.PoolIdx.{PoolIdx}
@@ -9,9 +9,9 @@ use Rattle.objects.specs.declared.extents.Extent.{Extent}
 use Rattle.objects.specs.Slots.{occ, held}
 use Rattle.objects.specs.Contents.{Contents, Parts, built, in_slot, stacked, nowhere}
 use Rattle.objects.specs.Change.{first, behind}
-use Rattle.objects.specs.Loose.{Loose, Top, below}
+use Rattle.objects.specs.Loose.{Loose}
 use Rattle.objects.proofs.Count.{here, occ_top}
-use Rattle.objects.proofs.Sound.{Sound, Restacked, lighter, loosened, heavier, once}
+use Rattle.objects.proofs.Sound.{Sound, Restacked, lighter, loosened, heavier}
 use Rattle.objects.proofs.Frame.{frame_extent, stacked_top}
 
 -- equal parts, equal contents
@@ -20,11 +20,6 @@ same_contents e f g = λ i. record { opened = e i; packed = f i; pool = g i }
 
 -- ---- the top of a stack
 
--- the last of a list is the top
-pub top_is : (xs : List PoolIdx) (x : PoolIdx) → 0 < length xs → x ≡ get_or xs (length xs - 1) x → xs ≡ below xs ++ x ∷ []
-top_is xs x h e =
-    sym (take_all (length xs - 1 + 1) xs (omega arith)) ∙ take_more xs (length xs - 1) x (omega arith) ∙ ap (λ (y : PoolIdx). below xs ++ y ∷ []) (sym e)
-
 -- a stack xs, without its top r, is ys
 abbrev pub Pop : List PoolIdx → List PoolIdx → Option PoolIdx → Type 0
 Pop xs ys r = MatchOption r ((xs ≡ []) × (ys ≡ [])) (λ x. xs ≡ ys ++ x ∷ [])
@@ -32,10 +27,6 @@ Pop xs ys r = MatchOption r ((xs ≡ []) × (ys ≡ [])) (λ x. xs ≡ ys ++ x �
 pub pop_is : (xs ys : List PoolIdx) (n m : ℕ) (r : Option PoolIdx) → n ≡ length xs → m ≡ length ys → xs ≡ ys ++ option_to_list r → MatchOption r ((n ≡ 0) × (m ≡ 0)) (λ _. m + 1 ≡ n) → Pop xs ys r
 pop_is xs ys n m (Some x) a b e c = e
 pop_is xs ys n m None a b e c = (nil_from_length xs (omega (arith, c.0)), nil_from_length ys (omega (arith, c.1)))
-
-pub top_pops : (xs : List PoolIdx) (r : Option PoolIdx) → Top xs r → Pop xs (below xs) r
-top_pops xs (Some x) t = t
-top_pops xs None t = (t, ap below t)
 
 -- the object on top, and those below it
 pub first_is : (es : List Extent) (ls : List (List Link)) (xs ys : List PoolIdx) (r : Option PoolIdx) → Pop xs ys r → option_map (in_slot es ls) r ≡ first (stacked es ls xs)
@@ -101,15 +92,6 @@ loose_released p ys x w e = loosened p (with_released p ys) x w refl (omega (ari
 -- a released slot has no links
 pub released_blank : (p : Parts) (ys : List PoolIdx) (x : PoolIdx) → Sound p → p.released ≡ ys ++ x ∷ [] → held p.links x.0 ≡ 0
 released_blank p ys x w e = w.blank x.0 (omega (arith, top_occ p.released ys x e))
-
--- the slot found on a stack is in use
-pub within_opened : (p : Parts) (r : Option PoolIdx) → Sound p → Top p.opened r → IfSome r (λ x. x.0 < p.used)
-within_opened p (Some x) w e = (once p x.0 w (omega (arith, top_occ p.opened (below p.opened) x e))).0
-within_opened p None w e = tt
-
-pub within_packed : (p : Parts) (r : Option PoolIdx) → Sound p → Top p.packed r → IfSome r (λ x. x.0 < p.used)
-within_packed p (Some x) w e = (once p x.0 w (omega (arith, top_occ p.packed (below p.packed) x e))).0
-within_packed p None w e = tt
 
 -- ---- putting a slot on a stack, with an extent
 

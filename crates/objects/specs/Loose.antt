@@ -1,6 +1,9 @@
--- A slot in use that stands on no stack, so that it can be put on any; and the top of a stack.
-use Rattle.std.specs.Prelude.{◌≡◌, ℕ, ◌+◌, ◌-◌, ◌<◌, ◌≤◌, List, [], ◌∷◌, ◌++◌, length, take, Option, MatchOption, slice_index_or}
+-- A slot in use that stands on no stack, so that it can be put on any; and the slot of an object.
+use Rattle.std.specs.Prelude.{◌≡◌, ◌+◌, ◌-◌, ◌<◌, length, Option}
+use Rattle.std.specs.List.{slice_get}
 use Rattle.link.specs.declared.PoolIdx.{PoolIdx}
+use Rattle.objects.specs.declared.extents.Which.{Which}
+use Rattle.objects.specs.declared.extents.Which.TheVariants.{Innermost, LastPacked, Numbered}
 use Rattle.objects.specs.Slots.{occ}
 use Rattle.objects.specs.Contents.{Parts}
 
@@ -11,13 +14,8 @@ pub record Loose (p : Parts) (x : PoolIdx) : Type 0 where
   pub not_released : occ x.0 p.released ≡ 0
   pub spare : length p.opened + length p.packed + length p.released < p.used
 
--- what lies below the top
-abbrev pub below : List PoolIdx → List PoolIdx
-below xs = take (length xs - 1) xs
-
-abbrev pub Top : List PoolIdx → Option PoolIdx → Type 0
-Top xs r = MatchOption r (xs ≡ []) (λ x. xs ≡ below xs ++ x ∷ [])
-
--- r is what stands at the place k, if there is one
-abbrev pub Place : List PoolIdx → ℕ → Option PoolIdx → Type 0
-Place xs k r = MatchOption r (length xs ≤ k) (λ x. (k < length xs) × (x ≡ slice_index_or xs k x))
+-- the slot of the object that is meant, if there is one: on top of its stack, or at the place of its number
+abbrev pub slot_at : Which → Parts → Option PoolIdx
+slot_at Innermost p = slice_get p.opened (length p.opened - 1)
+slot_at LastPacked p = slice_get p.packed (length p.packed - 1)
+slot_at (Numbered n) p = slice_get p.packed n.0

@@ -1,4 +1,4 @@
-// Which object is meant, where it lies, and what is read of one at once.
+// Which object is meant and which of its links, where it lies, and what is read of one at once.
 use link::{ObjIdx, PoolIdx};
 
 // An object, by where it stands: the innermost open one, the one packed last, or the packed one of a number.
@@ -7,6 +7,13 @@ pub enum Which {
     Innermost,
     LastPacked,
     Numbered(ObjIdx),
+}
+
+// The kinds of an object's links: a real one has an offset field, and a virtual one only orders objects.
+#[derive(Clone, Copy)]
+pub(crate) enum Kind {
+    Real,
+    Virtual,
 }
 
 // A packed object's bytes are those from head up to tail; of an open object these are head and tail of the

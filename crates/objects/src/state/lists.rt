@@ -1,58 +1,39 @@
-// The two lists of links that the object in a slot has, and what is read of a list.
-ghost use Rattle.std.specs.Prelude.{◌≡◌, ◌+◌, ◌*◌, ◌<◌, length};
+// The two lists of links that the object in a slot has, one of each kind, and what is read of a list.
+ghost use Rattle.std.specs.Prelude.{◌≡◌, ◌<◌, length, IfSome};
+ghost use Rattle.std.specs.Option.{option_map};
 ghost use Rattle.links.specs.Meaning.{lists, list_at};
-ghost use Rattle.model.specs.Closing.{same_links};
-ghost use Rattle.model.specs.Linking.{last_number};
-ghost use Rattle.model.specs.Reading.{nth, real_of, virtual_of};
-ghost use Rattle.objects.specs.Contents.{contents, object_at};
+ghost use Rattle.model.specs.Reading.{nth};
+ghost use Rattle.objects.specs.Contents.{parts, contents, object_at};
+ghost use Rattle.objects.specs.Kinds.{list_number, of_kind, links_in};
 ghost use Rattle.objects.specs.Change.{chosen};
+ghost use Rattle.objects.specs.Loose.{slot_at};
 
 use super::Objects;
-use crate::extents::Which;
-use link::{Link, ObjIdx, PoolIdx};
-
-// The number of no list.
-const NO_LIST: usize = usize::MAX;
+use crate::extents::{Kind, Which};
+use link::{Link, PoolIdx};
 
 impl Objects {
-    // The list of the real links in a slot.
-    pub(crate) fn real_list(&self, slot: PoolIdx) -> usize
+    // The list of a slot's links of a kind.
+    pub(crate) fn list(&self, slot: PoolIdx, kind: Kind) -> usize
         requires within { slot.0 < self.now.used }
-        ensures answer { result ≡ 2 * slot.0 }
-        ensures links { list_at self.now.links result ≡ (object_at self.now slot).real }
+        ensures answer { result ≡ list_number kind slot }
+        ensures links { list_at self.now.links result ≡ of_kind kind (object_at self.now slot) }
         ensures inside { result < length (lists self.now.links) }
     {
-        2 * slot.0
-    }
-
-    // The list of the virtual links in a slot.
-    pub(crate) fn virtual_list(&self, slot: PoolIdx) -> usize
-        requires within { slot.0 < self.now.used }
-        ensures answer { result ≡ 2 * slot.0 + 1 }
-        ensures links { list_at self.now.links result ≡ (object_at self.now slot).virtual }
-        ensures inside { result < length (lists self.now.links) }
-    {
-        2 * slot.0 + 1
-    }
-
-    // The list of an object's real links, or the number of no list.
-    pub(crate) fn real_list_of(&self, which: Which) -> usize
-        ensures answer { list_at self.now.links result ≡ real_of (chosen which (contents self.now)) }
-    {
-        match self.slot_of(which) {
-            Some(slot) => self.real_list(slot),
-            None => NO_LIST,
+        match kind {
+            Kind::Real => 2 * slot.0,
+            Kind::Virtual => 2 * slot.0 + 1,
         }
     }
 
-    // The list of an object's virtual links, or the number of no list.
-    pub(crate) fn virtual_list_of(&self, which: Which) -> usize
-        ensures answer { list_at self.now.links result ≡ virtual_of (chosen which (contents self.now)) }
+    // The list of an object's links of a kind, if there is such an object.
+    pub(crate) fn list_of(&self, which: Which, kind: Kind) -> Option<usize>
+        ensures answer { result ≡ option_map (list_number kind) (slot_at which (parts self.now)) }
+        ensures links { option_map (list_at self.now.links) result ≡ option_map (of_kind kind) (chosen which (contents self.now)) }
+        ensures inside { IfSome result (λ list. list < length (lists self.now.links)) }
     {
-        match self.slot_of(which) {
-            Some(slot) => self.virtual_list(slot),
-            None => NO_LIST,
-        }
+        let slot = self.slot_of(which)?;
+        Some(self.list(slot, kind))
     }
 
     // How many links a list has.
@@ -62,29 +43,10 @@ impl Objects {
         self.links.len(list).unwrap_or(0)
     }
 
-    // The i-th link of a list, from 0.
-    pub(crate) fn link_in(&self, list: usize, i: usize) -> Option<Link>
-        ensures answer { result ≡ nth (list_at self.now.links list) i }
+    // The i-th link of a kind that an object has, from 0. It takes i steps.
+    pub(crate) fn link(&self, which: Which, kind: Kind, i: usize) -> Option<Link>
+        ensures answer { result ≡ nth (links_in kind (chosen which (contents self.now))) i }
     {
-        self.links.get(list, i)
-    }
-
-    // The object that the last link of a list leads to.
-    pub(crate) fn last_number(&self, list: usize) -> Option<ObjIdx>
-        ensures answer { result ≡ last_number (list_at self.now.links list) }
-    {
-        match self.links.last(list) {
-            Some(link) => Some(link.objidx),
-            None => None,
-        }
-    }
-
-    // Whether two lists have the same links.
-    pub(crate) fn same_lists(&self, a: usize, b: usize) -> bool
-        requires first { a < length (lists self.now.links) }
-        requires second { b < length (lists self.now.links) }
-        ensures answer { result ≡ same_links (list_at self.now.links a) (list_at self.now.links b) }
-    {
-        self.links.same(a, b)
+        self.links.get(self.list_of(which, kind)?, i)
     }
 }

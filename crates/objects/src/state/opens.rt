@@ -99,29 +99,26 @@ impl Objects {
     pub fn pack(&mut self, extent: Extent)
         ensures state { contents self.new ≡ packs extent (contents self.old) }
     {
-        let Some(slot) = self.pop_opened() else {
-            return;
-        };
-        self.push_packed(slot, extent);
+        if let Some(slot) = self.pop_opened() {
+            self.push_packed(slot, extent);
+        }
     }
 
     // The innermost object is released.
     pub fn discard(&mut self)
         ensures state { contents self.new ≡ discards (contents self.old) }
     {
-        let Some(innermost) = self.pop_opened() else {
-            return;
-        };
-        self.release(innermost);
+        if let Some(innermost) = self.pop_opened() {
+            self.release(innermost);
+        }
     }
 
     // The object packed last is released.
     pub fn unpack(&mut self)
         ensures state { contents self.new ≡ unpacks (contents self.old) }
     {
-        let Some(last) = self.pop_packed() else {
-            return;
-        };
-        self.release(last);
+        if let Some(last) = self.pop_packed() {
+            self.release(last);
+        }
     }
 }

@@ -1,66 +1,27 @@
 // Slots found on the stacks, taken from them and put on them.
 ghost use Rattle.std.specs.Prelude.{◌≡◌, ◌<◌, [], is_some, IfSome, if◌then◌else◌};
 ghost use Rattle.std.specs.Option.{option_map};
-ghost use Rattle.model.specs.State.{numbered, slot_free, slot_next};
+ghost use Rattle.model.specs.State.{slot_free, slot_next};
 ghost use Rattle.objects.specs.Slots.{held};
 ghost use Rattle.objects.specs.Contents.{parts, contents, object_at, built};
 ghost use Rattle.objects.specs.Change.{first, chosen, closes, unstacks, takes, with_open, with_pack, laid, releases};
-ghost use Rattle.objects.specs.Loose.{Loose, Place, Top};
+ghost use Rattle.objects.specs.Loose.{Loose, slot_at};
 
 use super::Objects;
-use crate::extents::{Extent, Which};
-use link::{ObjIdx, PoolIdx};
-
-// The slot on top of a stack.
-fn top(stack: &Vec<PoolIdx>) -> Option<PoolIdx>
-    ensures answer { Top stack.now.items result }
-{
-    let n = stack.len();
-    if n == 0 {
-        return None;
-    }
-    Some(stack[n - 1])
-}
+use crate::extents::{Extent, Kind, Which};
+use link::PoolIdx;
 
 impl Objects {
-    // The slot of the innermost open object.
-    pub(crate) fn innermost_slot(&self) -> Option<PoolIdx>
-        ensures answer { option_map (object_at self.now) result ≡ first (contents self.now).opened }
-        ensures top { Top self.now.opened.items result }
-        ensures within { IfSome result (λ x. x.0 < self.now.used) }
-    {
-        top(&self.opened)
-    }
-
-    // The slot of the object packed last.
-    pub(crate) fn last_slot(&self) -> Option<PoolIdx>
-        ensures answer { option_map (object_at self.now) result ≡ first (contents self.now).packed }
-        ensures within { IfSome result (λ x. x.0 < self.now.used) }
-    {
-        top(&self.packed)
-    }
-
-    // The slot of the packed object of a number.
-    pub(crate) fn numbered_slot(&self, number: ObjIdx) -> Option<PoolIdx>
-        ensures answer { option_map (object_at self.now) result ≡ numbered (contents self.now).packed number.0 }
-        ensures place { Place self.now.packed.items number.0 result }
-        ensures within { IfSome result (λ x. x.0 < self.now.used) }
-    {
-        if number.0 >= self.packed.len() {
-            return None;
-        }
-        Some(self.packed[number.0])
-    }
-
-    // The slot of an object.
+    // The slot of an object, if there is such an object.
     pub(crate) fn slot_of(&self, which: Which) -> Option<PoolIdx>
-        ensures answer { option_map (object_at self.now) result ≡ chosen which (contents self.now) }
+        ensures answer { result ≡ slot_at which (parts self.now) }
+        ensures object { option_map (object_at self.now) result ≡ chosen which (contents self.now) }
         ensures within { IfSome result (λ x. x.0 < self.now.used) }
     {
         match which {
-            Which::Innermost => self.innermost_slot(),
-            Which::LastPacked => self.last_slot(),
-            Which::Numbered(number) => self.numbered_slot(number),
+            Which::Innermost => self.opened.last().copied(),
+            Which::LastPacked => self.packed.last().copied(),
+            Which::Numbered(number) => self.packed.get(number.0).copied(),
         }
     }
 
@@ -125,8 +86,8 @@ impl Objects {
         requires loose { Loose (parts self.old) slot }
         ensures state { contents self.new ≡ releases (object_at self.old slot) (contents self.old) }
     {
-        let reals = self.real_list(slot);
-        let virtuals = self.virtual_list(slot);
+        let reals = self.list(slot, Kind::Real);
+        let virtuals = self.list(slot, Kind::Virtual);
         let _ = self.links.clear(reals);
         let _ = self.links.clear(virtuals);
         self.released.push_reserved(slot);

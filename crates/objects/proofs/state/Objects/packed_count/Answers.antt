@@ -1,7 +1,7 @@
 use Rattle.std.proofs.Common.{vec_items, arith}
 use Rattle.links.specs.Meaning.{lists}
 use Rattle.objects.specs.Contents.{contents}
-use Rattle.objects.proofs.Number.{stacked_length}
+use Rattle.objects.proofs.Place.{stacked_length}
 use Rattle.objects.proofs.state.Objects.packed_count.Goals as goal
 
 pub returns : goal.returns

@@ -10,7 +10,7 @@ invariant_of-self c =
     let s = c.args.self.now in
     let x = c.args.slot in
     let f : lists c.clear-2.new.self ≡ emptied (lists s.links) x.0 =
-    emptied_is (lists s.links) (lists c.clear.new.self) (lists c.clear-2.new.self) _ _ x.0 c.clear.ensures.state c.clear-2.ensures.state c.real_list-reals.ensures.answer c.virtual_list-virtuals.ensures.answer in
+    emptied_is (lists s.links) (lists c.clear.new.self) (lists c.clear-2.new.self) _ _ x.0 c.clear.ensures.state c.clear-2.ensures.state c.list-reals.ensures.answer c.list-virtuals.ensures.answer in
     let w = released_sound (parts s) (sound s) x c.requires.loose (lists c.clear-2.new.self) f (vec_items c.push_reserved.new.self) c.push_reserved.ensures.items (cells c.clear-2.new.self) in
     record { paired = w.paired; reserved = (s.reserved.0, s.reserved.1, omega (arith, s.reserved.2, c.push_reserved.ensures.capacity)); counted = w.counted; roomy = w.roomy; apart = w.apart; blank = w.blank }
 
@@ -20,7 +20,7 @@ returns c =
     let s = c.args.self.now in
     let x = c.args.slot in
     let f : lists c.clear-2.new.self ≡ emptied (lists s.links) x.0 =
-    emptied_is (lists s.links) (lists c.clear.new.self) (lists c.clear-2.new.self) _ _ x.0 c.clear.ensures.state c.clear-2.ensures.state c.real_list-reals.ensures.answer c.virtual_list-virtuals.ensures.answer in
+    emptied_is (lists s.links) (lists c.clear.new.self) (lists c.clear-2.new.self) _ _ x.0 c.clear.ensures.state c.clear-2.ensures.state c.list-reals.ensures.answer c.list-virtuals.ensures.answer in
     record {
       state = released_means (parts s) (sound s) x c.requires.loose (lists c.clear-2.new.self) f (vec_items c.push_reserved.new.self) c.push_reserved.ensures.items (cells c.clear-2.new.self) (c.clear-2.ensures.same ∙ c.clear.ensures.same);
     }

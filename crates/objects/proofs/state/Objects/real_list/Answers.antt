@@ -1,8 +1,0 @@
-use Rattle.std.proofs.Common.{refl, arith}
-use Rattle.objects.specs.Contents.{object_at}
-use Rattle.objects.proofs.Sound.{lists_in}
-use Rattle.objects.proofs.state.Objects.real_list.Goals as goal
-
-pub returns : goal.returns
-unfolding object_at
-returns c = record { answer = refl; links = refl; inside = omega (arith, (lists_in c.args.self.now c.args.slot c.requires.within).0) }
