@@ -1,5 +1,5 @@
 -- What is read of lists of links: their lengths, their last link, and whether two are equal.
-use Rattle.std.proofs.Common.{◌≡◌, ℕ, suc, ◌-◌, ◌<◌, Bool, true, false, eqb, List, [], ◌∷◌, length, get_or, Decides, IfSome, MatchOption, Some, None, Option, unwrap_or, sym, refl, ap, ◌∙◌, subst, inl, inr, arith}
+use Rattle.std.proofs.Common.{◌≡◌, ℕ, zero, suc, ◌-◌, ◌<◌, Bool, true, false, eqb, List, [], ◌∷◌, length, get_or, Decides, IfSome, MatchOption, Some, None, Option, unwrap_or, sym, refl, ap, ◌∙◌, subst, inl, inr, arith}
 use Rattle.std.specs.Option.{option_map, option_zip}
 use Rattle.std.specs.List.{slice_get}
 use Rattle.std.proofs.lemmas.List.{get_or_past}
@@ -11,7 +11,7 @@ use Rattle.link.specs.declared.LinkWidth.TheVariants.{Zero, Two, Three, Four}
 use Rattle.link.specs.declared.OffsetWhence.{OffsetWhence}
 use Rattle.link.specs.declared.OffsetWhence.TheVariants.{Head, Tail, Absolute}
 use Rattle.link.specs.Feed.{whence_code}
-use Rattle.link.specs.Width.{bytes_of_width}
+use Rattle.link.specs.Width.{bytes_of_width, width_of_length}
 use Rattle.model.specs.State.{Object}
 use Rattle.objects.specs.declared.extents.Kind.{Kind}
 use Rattle.objects.specs.declared.extents.Kind.TheVariants.{Real, Virtual}
@@ -48,34 +48,29 @@ last_child_is o ls r e f = ap (option_map (λ (l : Link). l.objidx)) f ∙ last_
 
 -- ---- equal links
 
+width_back : (a : LinkWidth) → width_of_length (bytes_of_width a) ≡ Some a
+width_back Zero = refl
+width_back Two = refl
+width_back Three = refl
+width_back Four = refl
+
 width_same : (a b : LinkWidth) → eqb (bytes_of_width a) (bytes_of_width b) ≡ true → a ≡ b
-width_same Zero Zero e = refl
-width_same Zero Two e = absurd (false≢true e)
-width_same Zero Three e = absurd (false≢true e)
-width_same Zero Four e = absurd (false≢true e)
-width_same Two Zero e = absurd (false≢true e)
-width_same Two Two e = refl
-width_same Two Three e = absurd (false≢true e)
-width_same Two Four e = absurd (false≢true e)
-width_same Three Zero e = absurd (false≢true e)
-width_same Three Two e = absurd (false≢true e)
-width_same Three Three e = refl
-width_same Three Four e = absurd (false≢true e)
-width_same Four Zero e = absurd (false≢true e)
-width_same Four Two e = absurd (false≢true e)
-width_same Four Three e = absurd (false≢true e)
-width_same Four Four e = refl
+width_same a b e =
+    let f = width_back a in let g = width_back b in let h = ap width_of_length (eqb-true (bytes_of_width a) (bytes_of_width b) e) in cc
+
+whence_of : ℕ → OffsetWhence
+whence_of zero = Head
+whence_of (suc zero) = Tail
+whence_of (suc (suc n)) = Absolute
+
+whence_back : (a : OffsetWhence) → whence_of (whence_code a) ≡ a
+unfolding whence_of
+whence_back Head = refl
+whence_back Tail = refl
+whence_back Absolute = refl
 
 whence_same : (a b : OffsetWhence) → eqb (whence_code a) (whence_code b) ≡ true → a ≡ b
-whence_same Head Head e = refl
-whence_same Head Tail e = absurd (false≢true e)
-whence_same Head Absolute e = absurd (false≢true e)
-whence_same Tail Head e = absurd (false≢true e)
-whence_same Tail Tail e = refl
-whence_same Tail Absolute e = absurd (false≢true e)
-whence_same Absolute Head e = absurd (false≢true e)
-whence_same Absolute Tail e = absurd (false≢true e)
-whence_same Absolute Absolute e = refl
+whence_same a b e = sym (whence_back a) ∙ ap whence_of (eqb-true (whence_code a) (whence_code b) e) ∙ whence_back b
 
 mark_same : (a b : Bool) → same_mark a b ≡ true → a ≡ b
 mark_same true true e = refl

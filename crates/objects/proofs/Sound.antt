@@ -1,5 +1,5 @@
 -- What holds of the fields at once, and how it lasts as slots go from one stack to another.
-use Rattle.std.proofs.Common.{◌≡◌, ℕ, ◌+◌, ◌*◌, ◌^◌, ◌<◌, ◌≤◌, cond, eqb, ltb, length, sym, ap, ◌∙◌, subst, inl, inr, arith}
+use Rattle.std.proofs.Common.{◌≡◌, ℕ, ◌+◌, ◌<◌, ◌≤◌, cond, eqb, ltb, length, sym, ap, ◌∙◌, subst, inl, inr, arith}
 use Rattle.std.proofs.lemmas.Bool.{cases_eq, cases_lt}
 use Rattle.link.specs.declared.PoolIdx.{PoolIdx}
 use Rattle.objects.specs.declared.state.Objects.{Objects}
@@ -18,6 +18,17 @@ pub record Sound (p : Parts) : Type 0 where
 
 pub sound : (s : Objects) → Sound (parts s)
 sound s = record { sized = omega (arith, s.extents.ok.0); paired = s.paired; counted = s.counted; roomy = s.roomy; apart = s.apart; blank = s.blank }
+
+-- what `Objects` asks of its fields, and of the room on the stacks
+pub kept : (p : Parts) (A : Type 0) → Sound p → A → record {
+  paired : length p.links ≡ p.slots + p.slots;
+  reserved : A;
+  counted : length p.opened + length p.packed + length p.released ≤ p.used;
+  roomy : p.used ≤ p.slots;
+  apart : Apart p.opened p.packed p.released p.used;
+  blank : Blank p.links p.released p.used;
+}
+kept p A w r = record { paired = w.paired; reserved = r; counted = w.counted; roomy = w.roomy; apart = w.apart; blank = w.blank }
 
 -- how often a slot stands on the stacks, and how many stand on them
 abbrev pub mass : Parts → ℕ → ℕ
@@ -109,7 +120,3 @@ used_loose p w =
 
 pub used_blank : (p : Parts) → Sound p → held p.links p.used ≡ 0
 used_blank p w = w.blank p.used (let i = not_inside p.used p.used (omega arith) in omega arith)
-
--- the lists of a slot in use
-pub lists_in : (s : Objects) (x : PoolIdx) → x.0 < s.used → (2 * x.0 + 1 < length (parts s).links) × (2 * x.0 + 1 < 2 ^ 64)
-lists_in s x h = (omega (arith, s.roomy, s.paired), omega (arith, s.roomy, s.extents.small, s.extents.ok.1))

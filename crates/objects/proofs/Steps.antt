@@ -1,5 +1,5 @@
 -- A link added to an object, its links cut back, and virtual links handed over; and the model's words for the three.
-use Rattle.std.proofs.Common.{◌≡◌, ℕ, suc, ◌+◌, ◌-◌, ◌*◌, ◌<◌, Bool, true, false, cond, not, ◌&&◌, eqb, ltb, ◌≢◌, List, [], ◌∷◌, ◌++◌, length, get_or, take, set, is_some, Some, None, Option, sym, refl, ap, ◌∙◌, subst, add-zero, arith}
+use Rattle.std.proofs.Common.{◌≡◌, ℕ, suc, ◌+◌, ◌-◌, ◌*◌, ◌<◌, Bool, true, false, cond, not, ◌&&◌, eqb, ltb, ◌≢◌, List, [], ◌∷◌, ◌++◌, length, get_or, take, set, is_some, Some, None, Option, sym, refl, ap, ◌∙◌, subst, arith}
 use Rattle.std.specs.Option.{option_map, option_zip}
 use Rattle.std.proofs.lemmas.List.{length_push, length-take, length-append, get_or-set_other}
 use Rattle.std.proofs.lemmas.Bool.{lt-ltb, ne_eqb, and_from, cond-true}
@@ -7,9 +7,8 @@ use Rattle.link.specs.declared.Link.{Link}
 use Rattle.link.specs.declared.ObjIdx.{ObjIdx}
 use Rattle.link.specs.declared.PoolIdx.{PoolIdx}
 use Rattle.links.specs.Walk.{sum_of}
-use Rattle.model.specs.State.{Object, Pool, numbered, cell_free, links_of, slot_back, with_linked}
-use Rattle.model.specs.Linking.{extend, extend_virtual, lend, virtual_to}
-use Rattle.model.specs.Rewinding.{cut_first, cut_cells}
+use Rattle.model.specs.State.{Object, numbered, cell_free}
+use Rattle.model.specs.Linking.{lend, virtual_to}
 use Rattle.model.specs.Reading.{virtual_of}
 use Rattle.objects.specs.declared.extents.Kind.{Kind}
 use Rattle.objects.specs.declared.extents.Kind.TheVariants.{Real, Virtual}
@@ -18,8 +17,8 @@ use Rattle.objects.specs.declared.extents.Which.TheVariants.{Innermost, LastPack
 use Rattle.objects.specs.Slots.{occ}
 use Rattle.objects.specs.Contents.{Contents, Parts, meaning, in_slot}
 use Rattle.objects.specs.Kinds.{list_number, of_kind, links_in, with_kind}
-use Rattle.objects.specs.Change.{first, behind, chosen, let_go, real_links_of, discards, linked, linked_virtual, ordered, cuts, shares}
-use Rattle.objects.specs.Steps.{at_first, at_number, changes, counts, grown, grows, shortened, shortens, hands_over}
+use Rattle.objects.specs.Change.{first, chosen, ordered}
+use Rattle.objects.specs.Steps.{at_number, changes, counts, grown, grows, shortened, shortens, hands_over}
 use Rattle.objects.specs.Loose.{slot_at}
 use Rattle.objects.proofs.Sound.{Sound}
 use Rattle.objects.proofs.Frame.{Touch, with_links, sum_set}
@@ -29,20 +28,6 @@ use Rattle.objects.proofs.Relink.{set_touch, kind_is, number_in, set_kind, relin
 
 -- ---- the model's words
 
-grown_real : (l : Link) (os : List Object) → at_first (grown Real l) os ≡ extend l os
-grown_real l [] = refl
-grown_real l (o ∷ os) = refl
-
-pub grows_linked : (l : Link) (c : Contents) → grows Innermost Real l c ≡ linked l c
-grows_linked l c = same_contents (grown_real l c.opened) refl refl
-
-grown_virtual : (k : ObjIdx) (os : List Object) → at_first (grown Virtual (virtual_to k)) os ≡ extend_virtual k os
-grown_virtual k [] = refl
-grown_virtual k (o ∷ os) = refl
-
-pub grows_virtual : (k : ObjIdx) (c : Contents) → grows Innermost Virtual (virtual_to k) c ≡ linked_virtual k c
-grows_virtual k c = same_contents (grown_virtual k c.opened) refl refl
-
 pub lent_is : (vs : List Link) (n : ℕ) (os : List Object) → at_number (λ o. with_kind Virtual (o.virtual ++ vs) o) n os ≡ lend vs n os
 lent_is vs n [] = refl
 lent_is vs n (o ∷ os) = ap (λ (ps : List Object). elim (eqb (length os) n) [ true ↦ with_kind Virtual (o.virtual ++ vs) o ∷ os | false ↦ o ∷ ps ]) (lent_is vs n os)
@@ -50,46 +35,9 @@ lent_is vs n (o ∷ os) = ap (λ (ps : List Object). elim (eqb (length os) n) [ 
 pub grows_ordered : (k n : ObjIdx) (c : Contents) → grows (Numbered n) Virtual (virtual_to k) c ≡ ordered k n.0 c
 grows_ordered k n c = same_contents refl (lent_is (virtual_to k ∷ []) n.0 c.packed) refl
 
-cut_objects : (a b : ℕ) (os : List Object) → at_first (shortened Virtual b) (at_first (shortened Real a) os) ≡ cut_first a b os
-cut_objects a b [] = refl
-cut_objects a b (o ∷ os) = refl
-
-cut_linked : (a b n : ℕ) (os : List Object) → n - (length (links_in Real (first os)) - a) - (length (links_in Virtual (first (at_first (shortened Real a) os))) - b) ≡ cut_cells a b os n
-cut_linked a b n [] = omega arith
-cut_linked a b n (o ∷ os) = refl
-
-pub shortens_cuts : (a b : ℕ) (c : Contents) → shortens Virtual b (shortens Real a c) ≡ cuts a b c
-shortens_cuts a b c = same_contents (cut_objects a b c.opened) refl (ap (with_linked c.pool) (cut_linked a b c.pool.linked c.opened))
-
-pub some_links : (k : Kind) (o : Object) → links_in k (Some o) ≡ of_kind k o
+some_links : (k : Kind) (o : Object) → links_in k (Some o) ≡ of_kind k o
 some_links Real o = refl
 some_links Virtual o = refl
-
--- with no object there is nothing to cut
-none_objects : (f : Object → Object) (os : List Object) → first os ≡ None → os ≡ at_first f os
-none_objects f [] e = refl
-none_objects f (o ∷ os) e = absurd (cc)
-
-none_links : (k : Kind) → links_in k None ≡ []
-none_links Real = refl
-none_links Virtual = refl
-
-pub shortens_none : (k : Kind) (a : ℕ) (c : Contents) → first c.opened ≡ None → c ≡ shortens k a c
-shortens_none k a c e =
-    let z : length (links_in k (first c.opened)) ≡ 0 = ap (λ (o : Option Object). length (links_in k o)) e ∙ ap length (none_links k) in
-    let n : c.pool.linked ≡ c.pool.linked - (length (links_in k (first c.opened)) - a) = omega arith in
-    same_contents (none_objects (shortened k a) c.opened e) refl (ap (with_linked c.pool) n)
-
-shared_behind : (f : Object → Object) (os : List Object) → behind (at_first f os) ≡ behind os
-shared_behind f [] = refl
-shared_behind f (o ∷ os) = refl
-
-shared_pool : (p : Pool) (os : List Object) → let_go links_of (first (at_first (with_kind Virtual []) os)) p ≡ let_go real_links_of (first os) p
-shared_pool p [] = refl
-shared_pool p (o ∷ os) = ap (slot_back p o.slot) (add-zero (length o.real))
-
-pub hands_shares : (n : ℕ) (c : Contents) → discards (hands_over n c) ≡ shares n c
-hands_shares n c = same_contents (shared_behind (with_kind Virtual []) c.opened) refl (shared_pool c.pool c.opened)
 
 -- ---- the list of the object that is meant
 
@@ -105,14 +53,6 @@ listed_at w k p j None g e = absurd (cc)
 
 pub listed : (w : Which) (k : Kind) (p : Parts) (j : ℕ) → Some j ≡ option_map (list_number k) (slot_at w p) → Listed w k p j
 listed w k p j e = listed_at w k p j (slot_at w p) refl e
-
-unlisted_at : (k : Kind) (r : Option PoolIdx) → None ≡ option_map (list_number k) r → r ≡ None
-unlisted_at k (Some x) e = absurd (cc)
-unlisted_at k None e = refl
-
--- there is no such object
-pub unlisted : (w : Which) (k : Kind) (p : Parts) → None ≡ option_map (list_number k) (slot_at w p) → chosen w (meaning p) ≡ None
-unlisted w k p e = sym (meant w p) ∙ ap (option_map (in_slot p.extents p.links)) (unlisted_at k (slot_at w p) e)
 
 -- the cells counted first or last
 counted_in : (w : Which) (f : Object → Object) (m : ℕ) (c : Contents) → counts m (changes w f c) ≡ changes w f (counts m c)

@@ -1,6 +1,6 @@
 use Rattle.links.specs.Meaning.{lists, cells}
 use Rattle.objects.specs.Contents.{parts, contents}
-use Rattle.objects.proofs.Sound.{sound}
+use Rattle.objects.proofs.Sound.{sound, kept}
 use Rattle.objects.proofs.Frame.{sound_if, means_if}
 use Rattle.objects.proofs.Steps.{listed, list_sound, grown_room, grown_means}
 use Rattle.objects.proofs.state.Objects.append.Goals as goal
@@ -11,7 +11,7 @@ invariant_of-self c =
     let l = listed c.args.which c.args.kind (parts s) c.in-Some.list c.in-Some.ensures.answer in
     let n = cells c.append.new.self in
     let w = sound_if (parts s) c.append.result _ (lists c.append.new.self) n (sound s) (list_sound c.args.which c.args.kind (parts s) (sound s) c.in-Some.list l _ n) c.append.ensures.state in
-    record { paired = w.paired; reserved = s.reserved; counted = w.counted; roomy = w.roomy; apart = w.apart; blank = w.blank }
+    kept _ _ w s.reserved
 
 pub returns : goal.returns
 unfolding contents

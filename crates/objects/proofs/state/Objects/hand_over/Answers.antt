@@ -5,7 +5,7 @@ use Rattle.links.specs.Meaning.{lists, cells}
 use Rattle.objects.specs.Contents.{parts, contents, meaning}
 use Rattle.objects.specs.declared.extents.Kind.TheVariants.{Virtual}
 use Rattle.objects.specs.declared.extents.Which.TheVariants.{Innermost, Numbered}
-use Rattle.objects.proofs.Sound.{Sound, sound}
+use Rattle.objects.proofs.Sound.{Sound, sound, kept}
 use Rattle.objects.proofs.Frame.{with_links}
 use Rattle.objects.proofs.Steps.{Listed, listed, zipped, handed_sound, handed_means, handed_is, handed_both}
 use Rattle.objects.proofs.state.Objects.hand_over.Goals as goal
@@ -19,7 +19,7 @@ invariant_of-self c =
     let to : Listed (Numbered c.args.number) Virtual (parts s) c.in-Some.to = listed _ _ _ _ (sym z.1 ∙ c.list_of-to.ensures.answer) in
     let e = handed_is (parts s) (sound s) c.args.number c.in-Some.from c.in-Some.to from to c.append_all.result (lists c.append_all.new.self) c.append_all.ensures.answer c.append_all.ensures.state in
     let w = subst (λ (v : List (List Link)). Sound (with_links (parts s) v n)) (sym e.1) (handed_sound (parts s) (sound s) c.args.number c.in-Some.from c.in-Some.to from to n) in
-    record { paired = w.paired; reserved = s.reserved; counted = w.counted; roomy = w.roomy; apart = w.apart; blank = w.blank }
+    kept _ _ w s.reserved
 
 pub returns : goal.returns
 unfolding contents

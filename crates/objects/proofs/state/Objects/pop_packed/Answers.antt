@@ -1,7 +1,7 @@
 use Rattle.std.proofs.Common.{vec_items, refl, arith}
 use Rattle.links.specs.Meaning.{lists}
 use Rattle.objects.specs.Contents.{parts, contents, object_at}
-use Rattle.objects.proofs.Sound.{sound}
+use Rattle.objects.proofs.Sound.{sound, kept}
 use Rattle.objects.proofs.Stack.{pop_is, first_is, behind_is, same_contents, popped_packed, loose_packed}
 use Rattle.objects.proofs.state.Objects.pop_packed.Goals as goal
 
@@ -10,7 +10,7 @@ invariant_of-self c =
     let s = c.args.self.now in
     let e = pop_is _ _ _ _ c.pop.result s.packed.ok.0 c.pop.new.self.ok.0 c.pop.ensures.items c.pop.ensures.cases in
     let w = popped_packed (parts s) (sound s) (vec_items c.pop.new.self) c.pop.result e in
-    record { paired = w.paired; reserved = (s.reserved.0, omega (arith, s.reserved.1, c.pop.ensures.capacity), s.reserved.2); counted = w.counted; roomy = w.roomy; apart = w.apart; blank = w.blank }
+    kept _ _ w (s.reserved.0, omega (arith, s.reserved.1, c.pop.ensures.capacity), s.reserved.2)
 
 pub returns : goal.returns
 unfolding contents object_at

@@ -2,7 +2,7 @@ use Rattle.std.proofs.Common.{◌∷◌, vec_items, refl, ap, ◌∙◌, arith}
 use Rattle.links.specs.Meaning.{lists}
 use Rattle.model.specs.State.{Object}
 use Rattle.objects.specs.Contents.{parts, contents, stacked}
-use Rattle.objects.proofs.Sound.{sound}
+use Rattle.objects.proofs.Sound.{sound, kept}
 use Rattle.objects.proofs.Frame.{frame_extent, blank_slot}
 use Rattle.objects.proofs.Stack.{same_contents, pushed_opened, laid_top}
 use Rattle.objects.proofs.state.Objects.push_opened.Goals as goal
@@ -11,7 +11,7 @@ pub invariant_of-self : goal.invariant_of-self
 invariant_of-self c =
     let s = c.args.self.now in
     let w = pushed_opened (parts s) (sound s) c.args.slot c.requires.loose c.args.extent (vec_items c.push_reserved.new.self) c.push_reserved.ensures.items in
-    record { paired = w.paired; reserved = (omega (arith, s.reserved.0, c.push_reserved.ensures.capacity), s.reserved.1, s.reserved.2); counted = w.counted; roomy = w.roomy; apart = w.apart; blank = w.blank }
+    kept _ _ w (omega (arith, s.reserved.0, c.push_reserved.ensures.capacity), s.reserved.1, s.reserved.2)
 
 pub returns : goal.returns
 unfolding contents

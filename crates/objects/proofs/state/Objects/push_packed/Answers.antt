@@ -1,7 +1,7 @@
 use Rattle.std.proofs.Common.{vec_items, refl, arith}
 use Rattle.links.specs.Meaning.{lists}
 use Rattle.objects.specs.Contents.{parts, contents, object_at}
-use Rattle.objects.proofs.Sound.{sound}
+use Rattle.objects.proofs.Sound.{sound, kept}
 use Rattle.objects.proofs.Frame.{frame_extent}
 use Rattle.objects.proofs.Stack.{same_contents, pushed_packed, laid_top}
 use Rattle.objects.proofs.state.Objects.push_packed.Goals as goal
@@ -10,7 +10,7 @@ pub invariant_of-self : goal.invariant_of-self
 invariant_of-self c =
     let s = c.args.self.now in
     let w = pushed_packed (parts s) (sound s) c.args.slot c.requires.loose c.args.extent (vec_items c.push_reserved.new.self) c.push_reserved.ensures.items in
-    record { paired = w.paired; reserved = (s.reserved.0, omega (arith, s.reserved.1, c.push_reserved.ensures.capacity), s.reserved.2); counted = w.counted; roomy = w.roomy; apart = w.apart; blank = w.blank }
+    kept _ _ w (s.reserved.0, omega (arith, s.reserved.1, c.push_reserved.ensures.capacity), s.reserved.2)
 
 pub returns : goal.returns
 unfolding contents object_at

@@ -3,7 +3,7 @@ use Rattle.link.specs.declared.Link.{Link}
 use Rattle.links.specs.Meaning.{cells}
 use Rattle.objects.specs.Contents.{parts, contents, meaning}
 use Rattle.objects.specs.declared.extents.Which.TheVariants.{Innermost}
-use Rattle.objects.proofs.Sound.{Sound, sound}
+use Rattle.objects.proofs.Sound.{Sound, sound, kept}
 use Rattle.objects.proofs.Frame.{with_links}
 use Rattle.objects.proofs.Steps.{listed, list_sound, shortened_means}
 use Rattle.objects.proofs.state.Objects.shorten.Goals as goal
@@ -14,7 +14,7 @@ invariant_of-self c =
     let l = listed Innermost c.args.kind (parts s) c.in-Some.list c.in-Some.ensures.answer in
     let n = cells c.cut.new.self in
     let w = subst (λ (v : List (List Link)). Sound (with_links (parts s) v n)) (sym c.cut.ensures.state) (list_sound Innermost c.args.kind (parts s) (sound s) c.in-Some.list l _ n) in
-    record { paired = w.paired; reserved = s.reserved; counted = w.counted; roomy = w.roomy; apart = w.apart; blank = w.blank }
+    kept _ _ w s.reserved
 
 pub returns-in-Some : goal.returns-in-Some
 unfolding contents

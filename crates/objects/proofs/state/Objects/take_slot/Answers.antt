@@ -1,7 +1,7 @@
 use Rattle.std.proofs.Common.{true, false, Some, None, vec_items, vec_len, sym, ◌∙◌, arith}
 use Rattle.std.proofs.lemmas.Bool.{lt-ltb, le-ltb}
 use Rattle.objects.specs.Contents.{parts, contents}
-use Rattle.objects.proofs.Sound.{sound, used_blank}
+use Rattle.objects.proofs.Sound.{sound, used_blank, kept}
 use Rattle.objects.proofs.Stack.{pop_is, popped_released, loose_released, released_blank}
 use Rattle.objects.proofs.Release.{old_free, old_next, old_taken, same_released, new_sound, new_loose, new_free, new_next, new_taken}
 use Rattle.objects.proofs.state.Objects.take_slot.Goals as goal
@@ -11,21 +11,21 @@ invariant_of-self c =
     let s = c.args.self.now in
     let i = c.in-Some.ensures in
     let w = popped_released (parts s) (sound s) (vec_items c.pop.new.self) (Some c.in-Some.slot) i.items in
-    record { paired = w.paired; reserved = (s.reserved.0, s.reserved.1, omega (arith, s.reserved.2, i.capacity)); counted = w.counted; roomy = w.roomy; apart = w.apart; blank = w.blank }
+    kept _ _ w (s.reserved.0, s.reserved.1, omega (arith, s.reserved.2, i.capacity))
 
 pub invariant_of-self-then-self-len : goal.invariant_of-self-then-self-len
 invariant_of-self-then-self-len c =
     let s = c.args.self.now in
     let n = pop_is _ _ _ _ None s.released.ok.0 c.pop.new.self.ok.0 c.in_default.ensures.items c.in_default.ensures.cases in
     let w = popped_released (parts s) (sound s) (vec_items c.pop.new.self) None n in
-    record { paired = w.paired; reserved = (s.reserved.0, s.reserved.1, omega (arith, s.reserved.2, c.in_default.ensures.capacity)); counted = w.counted; roomy = w.roomy; apart = w.apart; blank = w.blank }
+    kept _ _ w (s.reserved.0, s.reserved.1, omega (arith, s.reserved.2, c.in_default.ensures.capacity))
 
 pub invariant_of-self-2 : goal.invariant_of-self-2
 invariant_of-self-2 c =
     let s = c.args.self.now in
     let n = pop_is _ _ _ _ None s.released.ok.0 c.pop.new.self.ok.0 c.in_default.ensures.items c.in_default.ensures.cases in
     let w = new_sound (parts s) (vec_items c.pop.new.self) (sound s) (omega (arith, c.len.ensures)) (n.1 ∙ sym n.0) in
-    record { paired = w.paired; reserved = (s.reserved.0, s.reserved.1, omega (arith, s.reserved.2, c.in_default.ensures.capacity)); counted = w.counted; roomy = w.roomy; apart = w.apart; blank = w.blank }
+    kept _ _ w (s.reserved.0, s.reserved.1, omega (arith, s.reserved.2, c.in_default.ensures.capacity))
 
 pub returns-in-Some : goal.returns-in-Some
 unfolding contents
