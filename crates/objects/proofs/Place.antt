@@ -20,7 +20,7 @@ use Rattle.objects.specs.Change.{first, chosen}
 use Rattle.objects.specs.Steps.{at_first, at_number}
 use Rattle.objects.specs.Loose.{slot_at}
 use Rattle.objects.proofs.Count.{here, occ_split}
-use Rattle.objects.proofs.Sound.{Sound, once}
+use Rattle.objects.proofs.Sound.{Sound, sound, once}
 use Rattle.objects.proofs.Frame.{stacked_split}
 
 -- x stands at the place k: what is below it, and what above
@@ -112,6 +112,9 @@ stands Innermost p x s e = let o = at_occ p.opened _ x e in let m = once p x.0 s
 stands LastPacked p x s e = let o = at_occ p.packed _ x e in let m = once p x.0 s (omega arith) in record { taken = m.0; once = omega (arith, m.1); not_released = omega (arith, m.1) }
 stands (Numbered n) p x s e = let o = at_occ p.packed _ x e in let m = once p x.0 s (omega arith) in record { taken = m.0; once = omega (arith, m.1); not_released = omega (arith, m.1) }
 
-pub within : (w : Which) (p : Parts) (r : Option PoolIdx) → Sound p → r ≡ slot_at w p → IfSome r (λ x. x.0 < p.used)
+within : (w : Which) (p : Parts) (r : Option PoolIdx) → Sound p → r ≡ slot_at w p → IfSome r (λ x. x.0 < p.used)
 within w p (Some x) s e = (stands w p x s (sym e)).taken
 within w p None s e = tt
+
+pub found_within : (s : Objects) (w : Which) (r : Option PoolIdx) → r ≡ slot_at w (parts s) → IfSome r (λ x. x.0 < s.used)
+found_within s w r e = within w (parts s) r (sound s) e

@@ -54,6 +54,7 @@ impl Objects {
     }
 
     // Adds a virtual link to a packed object: false where there is none of that number, or no cell is free.
+    #[tactic(auto, using(crate::proofs::Steps::grows_ordered))]
     pub fn add_virtual_to(&mut self, number: ObjIdx, child: ObjIdx) -> bool
         ensures answer { result ≡ (is_some (numbered (contents self.old).packed number.0) && cell_free (contents self.old).pool) }
         ensures state { contents self.new ≡ (if result then ordered child number.0 (contents self.old) else contents self.old) }

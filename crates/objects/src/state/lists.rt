@@ -14,6 +14,7 @@ use link::{Link, PoolIdx};
 
 impl Objects {
     // The list of a slot's links of a kind.
+    #[tactic(auto, unfolding(crate::specs::Contents::object_at))]
     pub(crate) fn list(&self, slot: PoolIdx, kind: Kind) -> usize
         requires within { slot.0 < self.now.used }
         ensures answer { result ≡ list_number kind slot }
@@ -37,6 +38,7 @@ impl Objects {
     }
 
     // How many links a list has.
+    #[tactic(auto, using(crate::proofs::Reading::length_is))]
     pub(crate) fn list_len(&self, list: usize) -> usize
         ensures answer { result ≡ length (list_at self.now.links list) }
     {

@@ -17,6 +17,7 @@ use links::LinkIter;
 
 impl Objects {
     // How many slots there are.
+    #[tactic(auto, unfolding(crate::specs::Contents::contents))]
     pub fn slot_count(&self) -> usize
         ensures answer { result ≡ (contents self.now).pool.slots }
     {
@@ -24,6 +25,7 @@ impl Objects {
     }
 
     // How many link cells there are.
+    #[tactic(auto, unfolding(crate::specs::Contents::contents))]
     pub fn cell_count(&self) -> usize
         ensures answer { result ≡ (contents self.now).pool.cells }
     {
@@ -31,6 +33,7 @@ impl Objects {
     }
 
     // How many objects are packed.
+    #[tactic(auto, using(crate::proofs::Place::stacked_length), unfolding(crate::specs::Contents::contents))]
     pub fn packed_count(&self) -> usize
         ensures answer { result ≡ length (contents self.now).packed }
     {

@@ -13,6 +13,7 @@ use link::PoolIdx;
 
 impl Objects {
     // The slot of an object, if there is such an object.
+    #[tactic(auto, using(crate::proofs::Place::slice_at, crate::proofs::Place::found, crate::proofs::Place::found_within))]
     pub(crate) fn slot_of(&self, which: Which) -> Option<PoolIdx>
         ensures answer { result ≡ slot_at which (parts self.now) }
         ensures object { option_map (object_at self.now) result ≡ chosen which (contents self.now) }

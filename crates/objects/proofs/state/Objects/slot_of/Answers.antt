@@ -1,27 +1,14 @@
-use Rattle.std.proofs.Common.{◌≡◌, rules}
-use Rattle.objects.specs.Contents.{parts}
-use Rattle.objects.specs.Loose.{slot_at}
-use Rattle.objects.proofs.Place.{found, within, slice_at}
-use Rattle.objects.proofs.Sound.{sound}
+use Rattle.std.proofs.Common.{rules}
+use Rattle.objects.proofs.Place.{slice_at, found_within}
 use Rattle.objects.proofs.state.Objects.slot_of.Goals as goal
 
-pub returns-in-Innermost : goal.returns-in-Innermost
-returns-in-Innermost c =
-    let s = c.args.self.now in
-    let e : c.copied.result ≡ slot_at c.args.which (parts s) = search rules in
-    record { answer = e; object = found s c.args.which c.copied.result e; within = within c.args.which (parts s) c.copied.result (sound s) e }
+pub returns-in-Innermost-clause-within : goal.returns-in-Innermost-clause-within
+returns-in-Innermost-clause-within c = found_within c.args.self.now c.args.which c.copied.result (search rules)
 
-pub returns-in-LastPacked : goal.returns-in-LastPacked
-returns-in-LastPacked c =
-    let s = c.args.self.now in
-    let r = c.copied-in-LastPacked.result in
-    let e : r ≡ slot_at c.args.which (parts s) = search rules in
-    record { answer = e; object = found s c.args.which r e; within = within c.args.which (parts s) r (sound s) e }
+pub returns-in-LastPacked-clause-within : goal.returns-in-LastPacked-clause-within
+returns-in-LastPacked-clause-within c = found_within c.args.self.now c.args.which c.copied-in-LastPacked.result (search rules)
 
-pub returns-in-Numbered : goal.returns-in-Numbered
-returns-in-Numbered c =
-    let s = c.args.self.now in
-    let r = c.copied-in-Numbered.result in
+pub returns-in-Numbered-clause-within : goal.returns-in-Numbered-clause-within
+returns-in-Numbered-clause-within c =
     let l = slice_at _ _ _ c.get.ensures.lookup in
-    let e : r ≡ slot_at c.args.which (parts s) = search rules in
-    record { answer = e; object = found s c.args.which r e; within = within c.args.which (parts s) r (sound s) e }
+    found_within c.args.self.now c.args.which c.copied-in-Numbered.result (search rules)
