@@ -35,15 +35,13 @@ impl Objects {
         }
     }
 
-    // So many slots and link cells, none of them in use. A number of slots whose double passes the largest
-    // `usize` is refused as memory that there is not.
+    // So many slots and link cells, none of them in use. The extents are made first: where memory holds as
+    // many, the number of lists is a `usize` too.
     pub fn new(heap: Global, slot_count: usize, cell_count: usize) -> Result<Objects, AllocError>
         ensures answer { IfOk result (λ s. contents s ≡ fresh slot_count cell_count) }
     {
-        let Some(list_count) = slot_count.checked_mul(2) else {
-            return Err(AllocError);
-        };
         let extents = vec![in heap; Extent { head: 0, tail: 0 }; slot_count]?;
+        let list_count = 2 * slot_count;
         let links = Links::new(heap, list_count, cell_count)?;
         let opened = Vec::with_capacity(heap, slot_count)?;
         let packed = Vec::with_capacity(heap, slot_count)?;
