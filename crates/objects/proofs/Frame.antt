@@ -1,5 +1,5 @@
 -- A change of one slot leaves the objects in other slots as they were.
-use Rattle.std.proofs.Common.{◌≡◌, ℕ, zero, suc, ◌+◌, ◌*◌, ◌<◌, ◌≤◌, Bool, true, false, cond, ◌≢◌, List, [], ◌∷◌, ◌++◌, map, reverse, length, get_or, set, sym, refl, ap, ◌∙◌, subst, arith}
+use Rattle.std.proofs.Common.{◌≡◌, ℕ, zero, suc, ◌+◌, ◌*◌, ◌<◌, ◌≤◌, Bool, true, false, cond, ◌≢◌, List, [], ◌∷◌, ◌++◌, map, reverse, length, get_or, set, replicate, sym, refl, ap, ◌∙◌, subst, arith}
 use Rattle.std.proofs.lemmas.List.{get_or-set_other, reverse-append, map-append, append_assoc, nil_from_length, length-set}
 use Rattle.link.specs.declared.Link.{Link}
 use Rattle.link.specs.declared.PoolIdx.{PoolIdx}
@@ -99,3 +99,7 @@ pub sum_set : (ls : List (List Link)) (i : ℕ) (l : List Link) → i < length l
 sum_set [] i l h = absurd (omega arith)
 sum_set (x ∷ xs) zero l h = omega arith
 sum_set (x ∷ xs) (suc i) l h = omega (arith, sum_set xs i l (omega arith))
+
+pub none_linked : (n : ℕ) → sum_of {X = List Link} length (replicate n []) ≡ 0
+none_linked zero = refl
+none_linked (suc n) = omega (arith, none_linked n)

@@ -7,4 +7,3 @@ mod Relink
 mod Steps
 mod Release
 mod Reading
-mod Fresh

@@ -14,7 +14,9 @@ pub mod reads;
 pub mod stacks;
 
 // The object in the slot i has the list 2i of `links` as its real links and the list 2i + 1 as its virtual
-// ones. Slots from `used` on have never held an object.
+// ones. Slots from `used` on have never held an object. Nothing allocates after `new`: a slot is taken from
+// those released, the last one first, else it is the lowest never used, so that the stacks are of slots in
+// memory of a fixed size, and `used` stands beside the extents of all slots.
 #[derive(Drop)]
 pub struct Objects {
     extents: Vec<Extent>,

@@ -26,7 +26,7 @@ fn virtual_to(child: ObjIdx) -> Link
 
 impl Objects {
     // Puts a link at the end of an object's links of a kind: false where there is no such object, or no cell
-    // is free.
+    // is free. `is_some_and` would not say that the links stay where its closure is not called, here and below.
     fn append(&mut self, which: Which, kind: Kind, link: Link) -> bool
         ensures answer { result ≡ (is_some (chosen which (contents self.old)) && cell_free (contents self.old).pool) }
         ensures state { contents self.new ≡ (if result then grows which kind link (contents self.old) else contents self.old) }

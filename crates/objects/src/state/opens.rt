@@ -1,42 +1,18 @@
 // Opening objects, closing them, and letting go of them; and the state in which none is.
-ghost use Rattle.std.specs.Prelude.{◌≡◌, ◌*◌, ◌≤◌, [], replicate, if◌then◌else◌, IfOk, vec_len, vec_capacity};
-ghost use Rattle.links.specs.Meaning.{lists, cells};
+ghost use Rattle.std.specs.Prelude.{◌≡◌, if◌then◌else◌, IfOk};
 ghost use Rattle.model.specs.State.{slot_free};
 ghost use Rattle.objects.specs.Contents.{contents};
 ghost use Rattle.objects.specs.Change.{fresh, opens as opened_with, closes, packs, discards, unpacks};
 
 use super::Objects;
 use crate::extents::Extent;
-use link::PoolIdx;
 use links::Links;
 use std::alloc::{AllocError, Global};
 
 impl Objects {
-    // No slot in use of as many as there are extents; each has two of the lists.
-    fn unused(
-        extents: Vec<Extent>,
-        links: Links,
-        opened: Vec<PoolIdx>,
-        packed: Vec<PoolIdx>,
-        released: Vec<PoolIdx>,
-    ) -> Objects
-        requires paired { lists links ≡ replicate (vec_len extents * 2) [] }
-        requires empty { (opened.items ≡ []) × (packed.items ≡ []) × (released.items ≡ []) }
-        requires reserved { (vec_len extents ≤ vec_capacity opened) × (vec_len extents ≤ vec_capacity packed) × (vec_len extents ≤ vec_capacity released) }
-        ensures answer { contents result ≡ fresh (vec_len extents) (cells links) }
-    {
-        Objects {
-            extents,
-            links,
-            opened,
-            packed,
-            released,
-            used: 0,
-        }
-    }
-
     // So many slots and link cells, none of them in use. The extents are made first: where memory holds as
     // many, the number of lists is a `usize` too.
+    #[tactic(auto, using(crate::proofs::Frame::none_linked), unfolding(crate::specs::Contents::contents))]
     pub fn new(heap: Global, slot_count: usize, cell_count: usize) -> Result<Objects, AllocError>
         ensures answer { IfOk result (λ s. contents s ≡ fresh slot_count cell_count) }
     {
@@ -46,24 +22,34 @@ impl Objects {
         let opened = Vec::with_capacity(heap, slot_count)?;
         let packed = Vec::with_capacity(heap, slot_count)?;
         let released = Vec::with_capacity(heap, slot_count)?;
-        Ok(Objects::unused(extents, links, opened, packed, released))
+        Ok(Objects {
+            extents,
+            links,
+            opened,
+            packed,
+            released,
+            used: 0,
+        })
     }
 
     // No slot and no link cell. Nothing is allocated.
+    #[tactic(auto, using(crate::proofs::Frame::none_linked), unfolding(crate::specs::Contents::contents))]
     pub fn none(heap: Global) -> Objects
         ensures answer { contents result ≡ fresh 0 0 }
     {
-        Objects::unused(
-            Vec::new(heap),
-            Links::none(heap),
-            Vec::new(heap),
-            Vec::new(heap),
-            Vec::new(heap),
-        )
+        Objects {
+            extents: Vec::new(heap),
+            links: Links::none(heap),
+            opened: Vec::new(heap),
+            packed: Vec::new(heap),
+            released: Vec::new(heap),
+            used: 0,
+        }
     }
 
     // As new, over the same slots and link cells, also those of objects that are on no stack. Nothing is
     // allocated; it takes a step a slot.
+    #[tactic(auto, using(crate::proofs::Frame::none_linked), unfolding(crate::specs::Contents::contents))]
     pub fn reset(&mut self)
         ensures state { contents self.new ≡ fresh (contents self.old).pool.slots (contents self.old).pool.cells }
     {
@@ -74,7 +60,8 @@ impl Objects {
         self.used = 0;
     }
 
-    // Opens an object, inside the innermost: false where no slot is free.
+    // Opens an object, inside the innermost: false where no slot is free. `is_some_and` would not say that
+    // nothing changes where its closure is not called.
     pub fn open(&mut self, extent: Extent) -> bool
         ensures answer { result ≡ slot_free (contents self.old).pool }
         ensures state { contents self.new ≡ (if result then opened_with extent (contents self.old) else contents self.old) }

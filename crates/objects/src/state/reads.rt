@@ -71,7 +71,7 @@ impl Objects {
     pub fn real_links(&self, which: Which) -> LinkIter<'_>
         ensures answer { rest result ≡ real_of (chosen which (contents self.now)) }
     {
-        // Where there is no such object the way goes through the list past the last, which has no links.
+        // A way with no links is one through a list that is not there, as the one past the last.
         let list = self.list_of(which, Kind::Real);
         self.links.iter(list.unwrap_or(2 * self.extents.len()))
     }

@@ -26,6 +26,9 @@ impl Objects {
         }
     }
 
+    // Open and packed objects have a function each: one over the name of a stack would be a match between two
+    // lines that are the bodies here.
+
     // Takes the innermost open object off its stack.
     pub(crate) fn pop_opened(&mut self) -> Option<PoolIdx>
         ensures answer { option_map (object_at self.new) result ≡ first (contents self.old).opened }
