@@ -1,3 +1,4 @@
 mod Offset
+mod Way
 mod Reach
 mod Put

@@ -8,7 +8,7 @@ use Rattle.link.specs.declared.OffsetWhence.TheVariants.{Head, Tail, Absolute}
 use Rattle.model.specs.State.{State, Object}
 use Rattle.model.specs.Ending.{Field, reach, field}
 use Rattle.objects.specs.Change.{outlined}
-use Rattle.offset_fields.specs.Passes.{beyond, base, offset_to, extent_of, field_at}
+use Rattle.offset_fields.specs.Passes.{beyond, base, offset_to, extent_of, placed, field_at}
 
 test_in : (t : Bool) (f : ℕ → Field) (v : ℕ) → ◌≡◌ {A = Option Field} (elim t [ true ↦ None | false ↦ Some (f v) ]) (option_map f (cond t None (Some v)))
 test_in true f v = refl
@@ -31,6 +31,7 @@ by_whence s Absolute o c b f h =
     let v = free_less s.head s.tail c.head b h in
     test_in (ltb (s.head + c.head) (s.tail + b)) f (s.head + c.head - (s.tail + b)) ∙ (λ i. option_map f (cond (t i) None (Some (v i))))
 
-pub field_is : (s : State) (o : Object) (l : Link) (c : Option Object) → s.head ≤ s.tail → field s o l c ≡ option_map (field_at (extent_of o) l) (offset_to (s.tail - s.head) (extent_of o) l (option_map outlined c))
+pub field_is : (s : State) (o : Object) (l : Link) (c : Option Object) → s.head ≤ s.tail →
+    field s o l c ≡ option_map (field_at (placed (extent_of o) l)) (offset_to (s.tail - s.head) (placed (extent_of o) l) (option_map outlined c))
 field_is s o l None h = refl
-field_is s o l (Some c) h = by_whence s l.whence o c l.bias (field_at (extent_of o) l) h
+field_is s o l (Some c) h = by_whence s l.whence o c l.bias (field_at (placed (extent_of o) l)) h

@@ -3,6 +3,7 @@
 
 pub mod measure;
 pub mod passes;
+pub mod walk;
 pub mod writing;
 
 pub use passes::write_fields;

@@ -8,10 +8,10 @@ ghost use Rattle.scalar.specs.BigEndian.{big_endian};
 ghost use Rattle.scalar.specs.Place.{room, write};
 ghost use Rattle.offset_fields.specs.Passes.{ending, field_at};
 
+use crate::walk::Placed;
 use cursor::flags::SerializeErrorFlags;
-use link::{Link, LinkWidth};
+use link::LinkWidth;
 use memory::{part_of, put_bytes};
-use objects::Extent;
 use scalar::Scalar;
 
 // The largest offset that a field holds.
@@ -43,14 +43,14 @@ fn write_number(memory: &mut Vec<u8>, at: usize, width: LinkWidth, number: u32) 
 pub(crate) fn put_offset(
     memory: &mut Vec<u8>,
     flags: &mut SerializeErrorFlags,
-    parent: Extent,
-    link: Link,
+    placed: Placed,
     offset: usize,
 )
-    ensures state { (k : Cursor) (c : Contents) → ending memory.new.items flags.new k c ≡ put_field (field_at parent link offset) (ending memory.old.items flags.old k c) }
+    ensures state { (k : Cursor) (c : Contents) → ending memory.new.items flags.new k c ≡ put_field (field_at placed offset) (ending memory.old.items flags.old k c) }
     ensures len { vec_len memory.new ≡ vec_len memory.old }
 {
-    if link.width.size() == 0 {
+    let Placed { parent, link } = placed;
+    if link.width == LinkWidth::Zero {
         return;
     }
     if offset > largest_of(link.width, link.is_signed) {
