@@ -1,5 +1,5 @@
 -- In a live run the tails that open objects recorded are edges of the stack of packed objects, and their heads rise inward.
-use Rattle.std.proofs.Common.{◌≡◌, ℕ, ◌≤◌, Bool, cond, not, ◌||◌, ltb, ◌⊎◌, List, [], ◌∷◌, ◌++◌, length, Some, None, Option, sym, refl, ap, ◌∙◌, subst, inl, inr, arith}
+use Rattle.std.proofs.Common.{◌≡◌, ℕ, ◌≤◌, Bool, cond, not, ◌||◌, ltb, ◌⊎◌, List, [], ◌∷◌, ◌++◌, length, Some, Option, Ok, Err, Result, sym, refl, ap, ◌∙◌, subst, inl, inr, arith}
 use Rattle.cursor.specs.Flags.{other, joined, hard}
 use Rattle.register.specs.Pairs.{Pairs, struck}
 use Rattle.std.proofs.lemmas.List.{append_assoc}
@@ -233,9 +233,9 @@ module _ (n : ℕ) (t s : State) (r : Pairs) (sound-t : SoundState n t) (sound :
 
 -- ---- over a run
 
-begun_poised : (x : Option Limit) (size slots cells n : ℕ) → PoisedState n (begun x size slots cells)
-begun_poised None size slots cells n = tt
-begun_poised (Some l) size slots cells n = tt
+begun_poised : (x : Result (Unit {0}) Limit) (size slots cells n : ℕ) → PoisedState n (begun x size slots cells)
+begun_poised (Ok u) size slots cells n = tt
+begun_poised (Err l) size slots cells n = tt
 
 module _ (b : Beginning) where
   abbrev Fine : List Call → Type 0

@@ -1,5 +1,5 @@
 -- Each link of a packed object was added by a call that was accepted, in an object that kept it until it was closed under its number.
-use Rattle.std.proofs.Common.{◌≡◌, ℕ, suc, ◌+◌, ◌-◌, List, [], ◌∷◌, ◌++◌, length, Some, None, Ok, Option, sym, ap, ◌∙◌, subst, inl, inr}
+use Rattle.std.proofs.Common.{◌≡◌, ℕ, suc, ◌+◌, ◌-◌, List, [], ◌∷◌, ◌++◌, length, Some, Ok, Err, Result, sym, ap, ◌∙◌, subst, inl, inr}
 use Rattle.link.specs.declared.Link.{Link}
 use Rattle.link.specs.Width.{bytes_of_width}
 use Rattle.model.specs.declared.limit.Limit.{Limit}
@@ -143,13 +143,13 @@ module _ (b : Beginning) where
   add_by c cs pend all k p e i l h (closed o os f g u r n) = add_new c cs k i l o os f g u n (p, e, h)
       (pend (length os) o (ap (λ (x : List Object). numbered x (length os)) g ∙ numbered_here o os) i l (subst (λ (x : List Link). nth x i ≡ Some l) r h))
 
-  none_open : (x : Option Limit) (size slots cells j : ℕ) (o : Object) → numbered (begun x size slots cells).opened j ≡ Some o → ⊥
-  none_open None size slots cells j o e = none_some o e
-  none_open (Some l) size slots cells j o e = none_some o e
+  none_open : (x : Result (Unit {0}) Limit) (size slots cells j : ℕ) (o : Object) → numbered (begun x size slots cells).opened j ≡ Some o → ⊥
+  none_open (Ok u) size slots cells j o e = none_some o e
+  none_open (Err l) size slots cells j o e = none_some o e
 
-  none_packed : (x : Option Limit) (size slots cells k : ℕ) (p : Object) → numbered (begun x size slots cells).packed k ≡ Some p → ⊥
-  none_packed None size slots cells k p e = none_some p e
-  none_packed (Some l) size slots cells k p e = none_some p e
+  none_packed : (x : Result (Unit {0}) Limit) (size slots cells k : ℕ) (p : Object) → numbered (begun x size slots cells).packed k ≡ Some p → ⊥
+  none_packed (Ok u) size slots cells k p e = none_some p e
+  none_packed (Err l) size slots cells k p e = none_some p e
 
   origins : (cs : List Call) → AllPending cs × AllAdded cs
   origins [] =

@@ -1,5 +1,5 @@
 -- Slots: open, packed and released ones are different, so there is one to each object. The register holds a pair for each slot at least.
-use Rattle.std.proofs.Common.{◌≡◌, ℕ, suc, ◌+◌, ◌<◌, ◌≤◌, true, cond, ltb, List, [], ◌∷◌, length, Some, None, Option, refl, ap, ◌∙◌, arith}
+use Rattle.std.proofs.Common.{◌≡◌, ℕ, suc, ◌+◌, ◌<◌, ◌≤◌, true, cond, ltb, List, [], ◌∷◌, length, Ok, Err, Result, refl, ap, ◌∙◌, arith}
 use Rattle.link.specs.declared.PoolIdx.{PoolIdx}
 use Rattle.register.specs.Pairs.{Pairs, struck}
 use Rattle.std.proofs.lemmas.Bool.{ltb-true, ltb-false, cond_both}
@@ -75,9 +75,9 @@ effect_housed (strikes h k e _) n d = d
 
 -- ---- over a run
 
-begun_housed : (o : Option Limit) (size slots cells : ℕ) → Housed (begun o size slots cells).pool.slots (begun o size slots cells).opened (begun o size slots cells).packed (begun o size slots cells).pool
-begun_housed None size slots cells = record { apart = omega arith; within = omega arith; limit = refl }
-begun_housed (Some l) size slots cells = record { apart = omega arith; within = omega arith; limit = refl }
+begun_housed : (o : Result (Unit {0}) Limit) (size slots cells : ℕ) → Housed (begun o size slots cells).pool.slots (begun o size slots cells).opened (begun o size slots cells).packed (begun o size slots cells).pool
+begun_housed (Ok u) size slots cells = record { apart = omega arith; within = omega arith; limit = refl }
+begun_housed (Err l) size slots cells = record { apart = omega arith; within = omega arith; limit = refl }
 
 abbrev pub slots_of : Beginning → ℕ
 slots_of b = (at b []).pool.slots
@@ -88,9 +88,9 @@ run_housed b (c ∷ cs) = effect_housed (call_effect c (at b cs) (run b cs).regi
 
 -- the check before `new` sees to it that the register has room for as many pairs as there are slots
 pub slots_fit : (b : Beginning) → slots_of b ≤ b.register.capacity
-slots_fit b = cond_both (over_memory b.size b.slots b.cells) (Some Memory) (cond (ltb b.register.capacity b.slots) (Some Register) None) (λ (x : Option Limit). (begun x b.size b.slots b.cells).pool.slots ≤ b.register.capacity)
+slots_fit b = cond_both (over_memory b.size b.slots b.cells) (Err Memory) (cond (ltb b.register.capacity b.slots) (Err Register) (Ok tt)) (λ (x : Result (Unit {0}) Limit). (begun x b.size b.slots b.cells).pool.slots ≤ b.register.capacity)
     (λ e. omega arith)
-    (λ e. cond_both (ltb b.register.capacity b.slots) (Some Register) None (λ (x : Option Limit). (begun x b.size b.slots b.cells).pool.slots ≤ b.register.capacity)
+    (λ e. cond_both (ltb b.register.capacity b.slots) (Err Register) (Ok tt) (λ (x : Result (Unit {0}) Limit). (begun x b.size b.slots b.cells).pool.slots ≤ b.register.capacity)
     (λ e. omega arith) (λ e. ltb-false b.register.capacity b.slots e))
 
 -- with an object open there are fewer packed than the register may hold

@@ -1,5 +1,5 @@
 -- The law's first part: where packed objects lie, after every run.
-use Rattle.std.proofs.Common.{◌≡◌, ℕ, ◌≤◌, false, eqb, ◌≢◌, List, [], ◌∷◌, length, drop, replicate, Some, None, Option, sym, refl, ap, ◌∙◌, inr, le_of_eq, arith}
+use Rattle.std.proofs.Common.{◌≡◌, ℕ, ◌≤◌, false, eqb, ◌≢◌, List, [], ◌∷◌, length, drop, replicate, Some, None, Option, Ok, Err, Result, sym, refl, ap, ◌∙◌, inr, le_of_eq, arith}
 use Rattle.std.proofs.lemmas.List.{length-replicate}
 use Rattle.register.specs.Pairs.{Pairs}
 use Rattle.model.specs.declared.limit.Limit.{Limit}
@@ -55,9 +55,9 @@ call_good n (OwnerStrike h k) s d r an = called n (OwnerStrike h k) s _ (d, refl
 
 -- ---- over a run
 
-begun_sound : (o : Option Limit) (size slots cells : ℕ) → SoundState (length (begun o size slots cells).memory) (begun o size slots cells)
-begun_sound None size slots cells = let zeros : List ℕ = replicate size 0 in let e : length zeros ≡ size = length-replicate size 0 in record { sized = refl; below = omega arith; stacked = tt; under = le_of_eq (sym e); meets = inr (sym e); tails = tt }
-begun_sound (Some l) size slots cells = record { sized = refl; below = omega arith; stacked = tt; under = omega arith; meets = inr refl; tails = tt }
+begun_sound : (o : Result (Unit {0}) Limit) (size slots cells : ℕ) → SoundState (length (begun o size slots cells).memory) (begun o size slots cells)
+begun_sound (Ok u) size slots cells = let zeros : List ℕ = replicate size 0 in let e : length zeros ≡ size = length-replicate size 0 in record { sized = refl; below = omega arith; stacked = tt; under = le_of_eq (sym e); meets = inr (sym e); tails = tt }
+begun_sound (Err l) size slots cells = record { sized = refl; below = omega arith; stacked = tt; under = omega arith; meets = inr refl; tails = tt }
 
 pub run_sound : (b : Beginning) (cs : List Call) → SoundState (span b) (at b cs)
 run_sound b [] = begun_sound (checked b.size b.slots b.cells b.register.capacity) b.size b.slots b.cells

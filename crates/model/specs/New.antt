@@ -1,5 +1,5 @@
 -- A new serializer, and the limits that its memory and its register must keep.
-use Rattle.std.specs.Prelude.{ℕ, Bool, true, false, cond, ◌||◌, [], replicate, Some, None, Option, nat_lt}
+use Rattle.std.specs.Prelude.{ℕ, Bool, true, false, cond, ◌||◌, [], replicate, Ok, Err, Result, nat_lt}
 use Rattle.cursor.specs.Flags.{none, other}
 use Rattle.model.specs.declared.limit.Limit.{Limit}
 use Rattle.model.specs.declared.limit.Limit.TheVariants.{Memory, Register}
@@ -9,9 +9,9 @@ use Rattle.model.specs.State.{State}
 abbrev pub over_memory : ℕ → ℕ → ℕ → Bool
 over_memory size slots cells = nat_lt 4294967295 size || (nat_lt 1048576 slots || nat_lt 1048576 cells)
 
--- the first limit that is not kept; a register must hold at least as many pairs as there are slots
-abbrev pub checked : ℕ → ℕ → ℕ → ℕ → Option Limit
-checked size slots cells capacity = cond (over_memory size slots cells) (Some Memory) (cond (nat_lt capacity slots) (Some Register) None)
+-- declined for the first limit that is not kept; a register must hold at least as many pairs as there are slots
+abbrev pub checked : ℕ → ℕ → ℕ → ℕ → Result (Unit {0}) Limit
+checked size slots cells capacity = cond (over_memory size slots cells) (Err Memory) (cond (nat_lt capacity slots) (Err Register) (Ok tt))
 
 -- all bytes zero, all of them free, no slot or cell in use
 abbrev pub fresh : ℕ → ℕ → ℕ → State
@@ -21,9 +21,9 @@ fresh size slots cells = record { memory = replicate size 0; head = 0; tail = si
 abbrev pub barred : State
 barred = record { memory = []; head = 0; tail = 0; flags = other; ended = true; opened = []; packed = []; pool = record { released = []; used = 0; slots = 0; linked = 0; cells = 0 } }
 
-abbrev pub begun : Option Limit → ℕ → ℕ → ℕ → State
-begun None size slots cells = fresh size slots cells
-begun (Some l) size slots cells = barred
+abbrev pub begun : Result (Unit {0}) Limit → ℕ → ℕ → ℕ → State
+begun (Ok u) size slots cells = fresh size slots cells
+begun (Err l) size slots cells = barred
 
 abbrev pub new : ℕ → ℕ → ℕ → ℕ → State
 new size slots cells capacity = begun (checked size slots cells capacity) size slots cells

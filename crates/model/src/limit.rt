@@ -3,6 +3,9 @@ ghost use Rattle.std.specs.Prelude.{◌≡◌};
 ghost use Rattle.model.specs.Limit.{limit_number};
 ghost use Rattle.model.specs.New.{checked};
 
+use std::error::Error;
+use std::fmt;
+
 pub const MOST_BYTES: usize = 4_294_967_295;
 
 pub const MOST_SLOTS: usize = 1_048_576;
@@ -28,16 +31,27 @@ impl Limit {
         }
     }
 
-    // The first limit that this much memory and a register of this capacity do not keep, if any.
-    pub fn check(size: usize, slots: usize, cells: usize, capacity: usize) -> Option<Limit>
+    // Declines with the first limit that this much memory and a register of this capacity do not keep.
+    pub fn check(size: usize, slots: usize, cells: usize, capacity: usize) -> Result<(), Limit>
         ensures answer { result ≡ checked size slots cells capacity }
     {
         if size > MOST_BYTES || slots > MOST_SLOTS || cells > MOST_CELLS {
-            return Some(Limit::Memory);
+            return Err(Limit::Memory);
         }
         if capacity < slots {
-            return Some(Limit::Register);
+            return Err(Limit::Register);
         }
-        None
+        Ok(())
     }
 }
+
+impl fmt::Display for Limit {
+    fn fmt<W: fmt::Write>(&self, f: &mut fmt::Formatter<W>) -> fmt::Result {
+        f.write_str(match self {
+            Limit::Memory => "more bytes, slots or link cells than a serializer takes",
+            Limit::Register => "the register may hold fewer pairs than there are slots",
+        })
+    }
+}
+
+impl Error for Limit {}
