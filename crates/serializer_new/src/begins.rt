@@ -1,6 +1,5 @@
 // The state that a new serializer has, and its memory handed back.
-ghost use Rattle.std.specs.Prelude.{◌≡◌, length, vec_len};
-ghost use Rattle.objects.specs.Contents.{contents};
+ghost use Rattle.std.specs.Prelude.{◌≡◌, length};
 ghost use Rattle.model.specs.New.{fresh, barred, new};
 ghost use Rattle.serializer_state.specs.View.{view};
 ghost use Rattle.serializer_new.specs.Amount.{size_of, slots_of, cells_of};
@@ -8,26 +7,24 @@ ghost use Rattle.serializer_new.specs.Amount.{size_of, slots_of, cells_of};
 use crate::storage::Memory;
 use cursor::cursor::Cursor;
 use cursor::flags::SerializeErrorFlags;
-use memory::clear;
 use objects::Objects;
 use register::Register;
 use serializer_state::SerializerState;
 use std::alloc::Global;
 
 // All bytes zero and free, no slot or cell in use.
-fn over(mut bytes: Vec<u8>, mut objects: Objects) -> SerializerState
-    ensures answer { view result ≡ fresh (vec_len bytes) (contents objects).pool.slots (contents objects).pool.cells }
+fn over(memory: Memory) -> SerializerState
+    ensures answer { view result ≡ fresh (size_of memory) (slots_of memory) (cells_of memory) }
 {
-    let end = bytes.len();
-    let _ = clear(&mut bytes, 0, end);
+    let Memory {
+        mut bytes,
+        mut objects,
+    } = memory;
+    bytes.fill(0);
     objects.reset();
     SerializerState {
+        cursor: Cursor::new(bytes.len()),
         memory: bytes,
-        cursor: Cursor {
-            head: 0,
-            tail: end,
-            end,
-        },
         flags: SerializeErrorFlags::SERIALIZE_ERROR_NONE,
         ended: false,
         objects,
@@ -40,11 +37,7 @@ fn over_nothing(heap: Global) -> SerializerState
 {
     SerializerState {
         memory: Vec::new(heap),
-        cursor: Cursor {
-            head: 0,
-            tail: 0,
-            end: 0,
-        },
+        cursor: Cursor::new(0),
         flags: SerializeErrorFlags::SERIALIZE_ERROR_OTHER,
         ended: true,
         objects: Objects::none(heap),
@@ -55,11 +48,9 @@ fn over_nothing(heap: Global) -> SerializerState
 pub fn begin<R: Register>(memory: Memory, register: &R) -> SerializerState
     ensures answer { view result ≡ new (size_of memory) (slots_of memory) (cells_of memory) (R.Register.holds register.now).capacity }
 {
-    let limit = memory.check(register);
-    let (bytes, objects) = memory.into_parts();
-    match limit {
-        Some(_) => over_nothing(*bytes.allocator()),
-        None => over(bytes, objects),
+    match memory.check(register) {
+        Ok(()) => over(memory),
+        Err(_) => over_nothing(*memory.bytes.allocator()),
     }
 }
 
@@ -76,5 +67,8 @@ pub fn give_back(state: SerializerState) -> Memory
         ended: _,
         objects,
     } = state;
-    Memory::from_parts(memory, objects)
+    Memory {
+        bytes: memory,
+        objects,
+    }
 }

@@ -6,6 +6,6 @@ pub mod makes;
 
 #[derive(Drop)]
 pub struct Memory {
-    bytes: Vec<u8>,
-    objects: Objects,
+    pub(crate) bytes: Vec<u8>,
+    pub(crate) objects: Objects,
 }

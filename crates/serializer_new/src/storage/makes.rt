@@ -1,6 +1,5 @@
-// Memory made with an allocator, asked whether it keeps the limits, and taken apart.
-ghost use Rattle.std.specs.Prelude.{◌≡◌, IfOk, vec_len};
-ghost use Rattle.objects.specs.Contents.{contents};
+// Memory made with an allocator, and asked whether it keeps the limits.
+ghost use Rattle.std.specs.Prelude.{◌≡◌, IfOk};
 ghost use Rattle.model.specs.New.{checked};
 ghost use Rattle.serializer_new.specs.Amount.{size_of, slots_of, cells_of};
 
@@ -20,9 +19,9 @@ impl Memory {
         Ok(Memory { bytes, objects })
     }
 
-    // The first limit that this memory and a register do not keep, if any: what a serializer over them would
-    // be declined for.
-    pub fn check<R: Register>(&self, register: &R) -> Option<Limit>
+    // Declines with the first limit that this memory and a register do not keep: what a serializer over them
+    // would be declined for.
+    pub fn check<R: Register>(&self, register: &R) -> Result<(), Limit>
         ensures answer { result ≡ checked (size_of self.now) (slots_of self.now) (cells_of self.now) (R.Register.holds register.now).capacity }
     {
         Limit::check(
@@ -31,22 +30,5 @@ impl Memory {
             self.objects.cell_count(),
             register.capacity(),
         )
-    }
-
-    pub(crate) fn from_parts(bytes: Vec<u8>, objects: Objects) -> Memory
-        ensures size { size_of result ≡ vec_len bytes }
-        ensures slots { slots_of result ≡ (contents objects).pool.slots }
-        ensures cells { cells_of result ≡ (contents objects).pool.cells }
-    {
-        Memory { bytes, objects }
-    }
-
-    pub(crate) fn into_parts(self) -> (Vec<u8>, Objects)
-        ensures size { vec_len result.0 ≡ size_of self }
-        ensures slots { (contents result.1).pool.slots ≡ slots_of self }
-        ensures cells { (contents result.1).pool.cells ≡ cells_of self }
-    {
-        let Memory { bytes, objects } = self;
-        (bytes, objects)
     }
 }
