@@ -1,6 +1,6 @@
 // The two passes over the links of all packed objects: first every offset is measured, so that nothing is written
 // unless each link has one, then the fields are written.
-ghost use Rattle.std.specs.Prelude.{◌≡◌, vec_len};
+ghost use Rattle.std.specs.Prelude.{◌≡◌};
 ghost use Rattle.std.specs.List.{fold, list_all};
 ghost use Rattle.model.specs.Ending.{fields, resolved};
 ghost use Rattle.objects.specs.Contents.{contents};
@@ -21,9 +21,8 @@ impl Measure<'_> {
     }
 
     // Writes the field of each link that has its offset.
-    fn put_all(&self, memory: &mut Vec<u8>, flags: &mut SerializeErrorFlags)
-        ensures state { ending memory.new.items flags.new self.now.cursor (contents self.now.objects.now) ≡ fold (put_link (free self.now) (packed self.now)) (ending memory.old.items flags.old self.now.cursor (contents self.now.objects.now)) (placed_from 0 (packed self.now)) }
-        ensures len { vec_len memory.new ≡ vec_len memory.old }
+    fn put_all(&self, memory: &mut [u8], flags: &mut SerializeErrorFlags)
+        ensures state { ending memory.new flags.new self.now.cursor (contents self.now.objects.now) ≡ fold (put_link (free self.now) (packed self.now)) (ending memory.old flags.old self.now.cursor (contents self.now.objects.now)) (placed_from 0 (packed self.now)) }
     {
         for placed in self.links() {
             if let Some(offset) = self.offset(placed) {
@@ -38,11 +37,10 @@ impl Measure<'_> {
 pub fn write_fields(
     objects: &Objects,
     cursor: Cursor,
-    memory: &mut Vec<u8>,
+    memory: &mut [u8],
     flags: &mut SerializeErrorFlags,
 )
-    ensures state { ending memory.new.items flags.new cursor (contents objects.now) ≡ resolved (fields (ending memory.old.items flags.old cursor (contents objects.now)) (contents objects.now).packed) (ending memory.old.items flags.old cursor (contents objects.now)) }
-    ensures len { vec_len memory.new ≡ vec_len memory.old }
+    ensures state { ending memory.new flags.new cursor (contents objects.now) ≡ resolved (fields (ending memory.old flags.old cursor (contents objects.now)) (contents objects.now).packed) (ending memory.old flags.old cursor (contents objects.now)) }
 {
     let measure = Measure { objects, cursor };
     if !measure.all_reach() {

@@ -1,5 +1,5 @@
 // One offset written into its field, or the flag that says why it is not.
-ghost use Rattle.std.specs.Prelude.{◌≡◌, ◌^◌, ◌<◌, if◌then◌else◌, vec_len};
+ghost use Rattle.std.specs.Prelude.{◌≡◌, ◌^◌, ◌<◌, if◌then◌else◌};
 ghost use Rattle.cursor.specs.declared.cursor.Cursor.{Cursor};
 ghost use Rattle.link.specs.Width.{bytes_of_width};
 ghost use Rattle.model.specs.Ending.{largest, put_field};
@@ -29,10 +29,9 @@ fn largest_of(width: LinkWidth, is_signed: bool) -> usize
 }
 
 // Writes a number in as many bytes as the width has, exactly if they have room there.
-fn write_number(memory: &mut Vec<u8>, at: usize, width: LinkWidth, number: u32) -> bool
-    ensures answer { result ≡ room memory.old.items at (bytes_of_width width) }
-    ensures state { memory.new.items ≡ (if result then write memory.old.items at (big_endian (bytes_of_width width) number) else memory.old.items) }
-    ensures len { vec_len memory.new ≡ vec_len memory.old }
+fn write_number(memory: &mut [u8], at: usize, width: LinkWidth, number: u32) -> bool
+    ensures answer { result ≡ room memory.old at (bytes_of_width width) }
+    ensures state { memory.new ≡ (if result then write memory.old at (big_endian (bytes_of_width width) number) else memory.old) }
 {
     let raw = number.raw();
     put_bytes(memory, at, part_of(&raw, 4 - width.size(), 4))
@@ -41,13 +40,12 @@ fn write_number(memory: &mut Vec<u8>, at: usize, width: LinkWidth, number: u32) 
 // Writes an offset into the field of a link of the object `parent`. One above the largest that the field
 // holds sets OFFSET_OVERFLOW; a field past the end of the memory sets OTHER.
 pub(crate) fn put_offset(
-    memory: &mut Vec<u8>,
+    memory: &mut [u8],
     flags: &mut SerializeErrorFlags,
     placed: Placed,
     offset: usize,
 )
-    ensures state { (k : Cursor) (c : Contents) → ending memory.new.items flags.new k c ≡ put_field (field_at placed offset) (ending memory.old.items flags.old k c) }
-    ensures len { vec_len memory.new ≡ vec_len memory.old }
+    ensures state { (k : Cursor) (c : Contents) → ending memory.new flags.new k c ≡ put_field (field_at placed offset) (ending memory.old flags.old k c) }
 {
     let Placed { parent, link } = placed;
     if link.width == LinkWidth::Zero {

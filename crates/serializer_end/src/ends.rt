@@ -4,7 +4,7 @@ ghost use Rattle.model.specs.Closing.{pop_pack};
 ghost use Rattle.model.specs.Ending.{finish as finished, end_serialize};
 ghost use Rattle.serializer_state.specs.View.{view};
 
-use crate::resolving::{end_flagged, finish, nothing_open};
+use crate::resolving::{end_flagged, finish};
 use register::Register;
 use serializer_close::pop_pack;
 use serializer_state::SerializerState;
@@ -28,7 +28,7 @@ pub fn end_serialize<R: Register>(s: &mut SerializerState, register: &mut R)
     if s.ended {
         return;
     }
-    if nothing_open(s) {
+    if s.nothing_open() {
         return;
     }
     if s.flags.in_error() {

@@ -1,6 +1,5 @@
 // What follows the last object: the serializer is ended, and the fields of links are written.
 ghost use Rattle.std.specs.Prelude.{◌≡◌};
-ghost use Rattle.model.specs.Declining.{nothing_open};
 ghost use Rattle.model.specs.Ending.{resolve, end_flagged};
 ghost use Rattle.model.specs.State.{with_ended};
 ghost use Rattle.serializer_state.specs.View.{view};
@@ -8,13 +7,6 @@ ghost use Rattle.serializer_state.specs.View.{view};
 use cursor::flags::SerializeErrorFlags;
 use offset_fields::write_fields;
 use serializer_state::SerializerState;
-
-// Whether no object is open.
-pub(crate) fn nothing_open(s: &SerializerState) -> bool
-    ensures answer { result ≡ nothing_open (view s.now) }
-{
-    s.nothing_open()
-}
 
 // Adds OTHER to an offset overflow.
 pub(crate) fn end_flagged(s: &mut SerializerState)
@@ -35,7 +27,7 @@ pub(crate) fn finish(s: &mut SerializerState)
     if s.flags.in_error() {
         return;
     }
-    if !nothing_open(s) {
+    if !s.nothing_open() {
         let _ = s.flag(SerializeErrorFlags::SERIALIZE_ERROR_OTHER);
         return;
     }

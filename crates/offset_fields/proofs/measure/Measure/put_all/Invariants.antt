@@ -1,4 +1,4 @@
-use Rattle.std.proofs.Common.{◌≡◌, vec_items, vec_len}
+use Rattle.std.proofs.Common.{◌≡◌}
 use Rattle.std.specs.List.{fold}
 use Rattle.objects.specs.Contents.{contents}
 use Rattle.offset_fields.specs.Passes.{ending, free, packed, put_link}
@@ -8,6 +8,5 @@ use Rattle.offset_fields.proofs.measure.Measure.put_all.Given as goal
 -- what is left leads to the same state
 abbrev pub invariant-loop-placed : goal.invariant-loop-placed
 invariant-loop-placed l =
-    (fold (put_link (free l.self) (packed l.self)) (ending (vec_items l.memory) l.flags l.self.cursor (contents l.self.objects.now)) (left l.placed-iterator)
-    ≡ fold (put_link (free l.self) (packed l.self)) (ending (vec_items l.initial.memory) l.initial.flags l.self.cursor (contents l.self.objects.now)) (left l.initial.placed-iterator))
-    × (vec_len l.memory ≡ vec_len l.initial.memory)
+    fold (put_link (free l.self) (packed l.self)) (ending l.memory l.flags l.self.cursor (contents l.self.objects.now)) (left l.placed-iterator)
+    ≡ fold (put_link (free l.self) (packed l.self)) (ending l.initial.memory l.initial.flags l.self.cursor (contents l.self.objects.now)) (left l.initial.placed-iterator)
