@@ -2,7 +2,7 @@
 ghost use Rattle.std.specs.Prelude.{◌≡◌};
 ghost use Rattle.std.specs.Iterator.{YieldsFirst, item_count};
 ghost use Rattle.offset_fields.specs.Passes.{packed, placed_from};
-ghost use Rattle.offset_fields.specs.Walk.{left, Enters};
+ghost use Rattle.offset_fields.specs.Walk.{left, left_of, Begins};
 
 use crate::measure::Measure;
 use link::{Link, ObjIdx};
@@ -16,13 +16,20 @@ pub(crate) struct Placed {
     pub(crate) link: Link,
 }
 
-// The links by the numbers of their objects, and those of one object in their order.
+// The links of one object in their order.
+#[derive(Drop)]
+struct ObjectLinks<'a> {
+    parent: Extent,
+    links: LinkIter<'a>,
+}
+
+// The links of all objects, by the objects' numbers. The type is an iterator of its own and no `flat_map`, since
+// the type of one has no name that a function could return.
 #[derive(Drop)]
 pub(crate) struct PackedLinks<'a> {
     objects: &'a Objects,
-    // What is still to come of the object that lies at `parent`.
-    parent: Extent,
-    links: LinkIter<'a>,
+    // What is still to come of the last object that was begun.
+    begun: Option<ObjectLinks<'a>>,
     // The number of the object that follows it.
     next: usize,
 }
@@ -32,29 +39,45 @@ impl<'a> Measure<'a> {
     pub(crate) fn links(&self) -> PackedLinks<'a>
         ensures answer { left result ≡ placed_from 0 (packed self.now) }
     {
-        let no_object = Which::Numbered(ObjIdx(self.objects.packed_count()));
         PackedLinks {
             objects: self.objects,
-            parent: Extent { head: 0, tail: 0 },
-            links: self.objects.real_links(no_object),
+            begun: None,
             next: 0,
         }
     }
 }
 
-impl PackedLinks<'_> {
-    // Goes on to the next object, if there is one.
-    fn enter(&mut self) -> Option<()>
-        ensures state { Enters self.old result self.new }
+impl Iterator for ObjectLinks<'_> {
+    type Item = Placed;
+
+    ghost next_gives = { YieldsFirst left_of };
+
+    ghost remaining = { item_count left_of };
+
+    fn next(&mut self) -> Option<Placed> {
+        let link = self.links.next()?;
+        Some(Placed {
+            parent: self.parent,
+            link,
+        })
+    }
+}
+
+impl<'a> PackedLinks<'a> {
+    // Goes on to the next object, if there is one, and answers its links.
+    fn begin(&mut self) -> Option<ObjectLinks<'a>>
+        ensures state { Begins self.old result self.new }
     {
         if self.next >= self.objects.packed_count() {
             return None;
         }
         let object = Which::Numbered(ObjIdx(self.next));
-        self.parent = self.objects.outline(object)?.extent;
-        self.links = self.objects.real_links(object);
+        let parent = self.objects.outline(object)?.extent;
         self.next += 1;
-        Some(())
+        Some(ObjectLinks {
+            parent,
+            links: self.objects.real_links(object),
+        })
     }
 }
 
@@ -67,13 +90,12 @@ impl Iterator for PackedLinks<'_> {
 
     fn next(&mut self) -> Option<Placed> {
         loop {
-            if let Some(link) = self.links.next() {
-                return Some(Placed {
-                    parent: self.parent,
-                    link,
-                });
+            if let Some(links) = &mut self.begun
+                && let Some(placed) = links.next()
+            {
+                return Some(placed);
             }
-            self.enter()?;
+            self.begun = Some(self.begin()?);
         }
     }
 }
