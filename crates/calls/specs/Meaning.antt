@@ -22,6 +22,21 @@ scalar_bytes (value.U32 x) = big_endian 4 x
 scalar_bytes (value.U24 x) = big_endian 3 x
 scalar_bytes (value.Tag x) = x.0
 
+abbrev pub kind_of_value : ScalarValue → ScalarKind
+kind_of_value (value.U8 x) = kind.U8
+kind_of_value (value.U16 x) = kind.U16
+kind_of_value (value.I16 x) = kind.I16
+kind_of_value (value.U32 x) = kind.U32
+kind_of_value (value.U24 x) = kind.U24
+kind_of_value (value.Tag x) = kind.Tag
+
+abbrev pub kind_of_count : CountKind → ScalarKind
+kind_of_count count.U8 = kind.U8
+kind_of_count count.U16 = kind.U16
+kind_of_count count.I16 = kind.I16
+kind_of_count count.U32 = kind.U32
+kind_of_count count.U24 = kind.U24
+
 abbrev pub width_of : ScalarKind → ℕ
 width_of kind.U8 = 1
 width_of kind.U16 = 2
@@ -31,11 +46,7 @@ width_of kind.U24 = 3
 width_of kind.Tag = 4
 
 abbrev pub count_width : CountKind → ℕ
-count_width count.U8 = 1
-count_width count.U16 = 2
-count_width count.I16 = 2
-count_width count.U32 = 4
-count_width count.U24 = 3
+count_width k = width_of (kind_of_count k)
 
 -- the largest count that a kind holds
 abbrev pub count_most : CountKind → ℕ

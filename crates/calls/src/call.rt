@@ -4,7 +4,7 @@ use cursor::flags::SerializeErrorFlags;
 use link::{ObjIdx, OffsetWhence};
 
 // A call that only reads.
-#[derive(Clone, Copy)]
+#[derive(Clone, Copy, PartialEq, Eq, Debug)]
 pub enum Reading {
     Error,
     InError,
@@ -27,7 +27,7 @@ pub enum Reading {
     VirtualLink(ObjIdx, usize),
 }
 
-#[derive(Clone, Copy)]
+#[derive(Clone, Copy, PartialEq, Eq, Debug)]
 pub enum Call<'a> {
     SetErr(SerializeErrorFlags),
     StartSerialize,
@@ -38,9 +38,20 @@ pub enum Call<'a> {
     EmbedBytes(&'a [u8]),
     CopyAssign(usize, ScalarValue),
     CopyAssignFromBytes(usize, &'a [u8]),
-    CheckAssign(usize, CountKind, usize, SerializeErrorFlags),
-    // From, to, number, whence, bias, signed.
-    AddLink(usize, usize, ObjIdx, OffsetWhence, u32, bool),
+    CheckAssign {
+        pos: usize,
+        kind: CountKind,
+        count: usize,
+        flags: SerializeErrorFlags,
+    },
+    AddLink {
+        from: usize,
+        to: usize,
+        number: ObjIdx,
+        whence: OffsetWhence,
+        bias: u32,
+        is_signed: bool,
+    },
     AddVirtualLink(ObjIdx),
     RepackLast(ObjIdx),
     PopPack(bool),

@@ -87,16 +87,23 @@ pub(crate) fn step<R: Register>(
             s.copy_assign_from_bytes(pos, bytes);
             Ok(Answer::Nothing)
         }
-        Call::CheckAssign(pos, kind, count, flags) => {
-            Ok(Answer::Done(check_assign(s, pos, kind, count, flags)))
-        }
-        Call::AddLink(from, to, number, whence, bias, is_signed) => Ok(Answer::Done(s.add_link(
-            from..to,
+        Call::CheckAssign {
+            pos,
+            kind,
+            count,
+            flags,
+        } => Ok(Answer::Done(check_assign(s, pos, kind, count, flags))),
+        Call::AddLink {
+            from,
+            to,
             number,
             whence,
             bias,
             is_signed,
-        ))),
+        } => {
+            let linked = s.add_link(from..to, number, whence, bias, is_signed);
+            Ok(Answer::Done(linked))
+        }
         Call::AddVirtualLink(number) => Ok(Answer::Done(s.add_virtual_link(number))),
         Call::RepackLast(number) => Ok(Answer::Done(s.repack_last(number))),
         Call::PopPack(share) => Ok(Answer::Number(s.pop_pack(share, register))),

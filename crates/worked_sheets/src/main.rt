@@ -6,46 +6,42 @@ mod table;
 
 use calls::Hex;
 use sheet::{Line, Reply, Sheet};
-use std::{fmt, io};
+use std::fmt;
 use table::sheets;
 
 impl fmt::Display for Reply {
     fn fmt<W: fmt::Write>(&self, f: &mut fmt::Formatter<W>) -> fmt::Result {
         match *self {
-            Reply::Nothing => write!(f, "nothing"),
-            Reply::Done => write!(f, "ok"),
-            Reply::Declined(flags) | Reply::NoPlace(flags) => {
-                let flags = flags.0;
-                write!(f, "err {flags}")
-            }
-            Reply::Place(place) => write!(f, "ok {place}"),
-            Reply::Number(number) => write!(f, "some {number}"),
-            Reply::NoNumber => write!(f, "none"),
-            Reply::Flags(flags) => {
-                let flags = flags.0;
-                write!(f, "flags {flags}")
-            }
-            Reply::Taken(head, tail) => write!(f, "head {head}, tail {tail}"),
+            Reply::Nothing => f.write_str("nothing"),
+            Reply::Done(Ok(())) => f.write_str("ok"),
+            Reply::Place(Ok(place)) => write!(f, "ok {place}"),
+            Reply::Done(Err(flags)) | Reply::Place(Err(flags)) => write!(f, "err {}", flags.0),
+            Reply::Number(Some(number)) => write!(f, "some {number}"),
+            Reply::Number(None) => f.write_str("none"),
+            Reply::Flags(flags) => write!(f, "flags {}", flags.0),
+            Reply::Taken { head, tail } => write!(f, "head {head}, tail {tail}"),
         }
     }
 }
 
-fn show(rt: &HostRuntime, sheet: &Sheet<'_>) -> io::Result<()> {
-    let name = sheet.name;
-    let size = sheet.size;
-    println!(rt; "{name}: memory {size}")?;
-    for Line(call, reply) in sheet.lines {
-        println!(rt; "    {call}: {reply}")?;
+impl fmt::Display for Sheet<'_> {
+    fn fmt<W: fmt::Write>(&self, f: &mut fmt::Formatter<W>) -> fmt::Result {
+        writeln!(f, "{}: memory {}", self.name, self.size)?;
+        for Line(call, reply) in self.lines {
+            writeln!(f, "    {call}: {reply}")?;
+        }
+        let first = Hex(self.first);
+        write!(
+            f,
+            "  flags {}, output of {} bytes: {first}",
+            self.flags.0, self.length
+        )
     }
-    let flags = sheet.flags;
-    let length = sheet.length;
-    let first = Hex(sheet.first);
-    println!(rt; "  flags {flags}, output of {length} bytes: {first}")
 }
 
 fn main(rt: HostRuntime) -> anyhow::Result<()> {
     for sheet in sheets() {
-        show(&rt, sheet)?;
+        println!(rt; "{sheet}")?;
     }
     Ok(())
 }

@@ -1,20 +1,18 @@
 // A worked sheet: so much memory, calls with what each answers, and what they leave.
 use calls::Call;
 use cursor::flags::SerializeErrorFlags;
+use link::ObjIdx;
 
 // What a call answers.
 #[derive(Clone, Copy)]
 pub enum Reply {
     Nothing,
-    Done,
-    Declined(SerializeErrorFlags),
-    Place(usize),
-    NoPlace(SerializeErrorFlags),
-    Number(usize),
-    NoNumber,
+    Done(Result<(), SerializeErrorFlags>),
+    Place(Result<usize, SerializeErrorFlags>),
+    Number(Option<ObjIdx>),
     Flags(SerializeErrorFlags),
-    // A snapshot of head and tail with nothing open and no flag.
-    Taken(usize, usize),
+    // A snapshot with nothing open and no flag.
+    Taken { head: usize, tail: usize },
 }
 
 #[derive(Clone, Copy)]
@@ -25,7 +23,7 @@ pub struct Sheet<'a> {
     pub size: usize,
     pub lines: &'a [Line<'a>],
     // The flags at the end, the length of the output, and its first bytes, sixteen at most.
-    pub flags: u16,
+    pub flags: SerializeErrorFlags,
     pub length: usize,
     pub first: &'a [u8],
 }

@@ -8,56 +8,73 @@ use calls::Call;
 use cursor::flags::SerializeErrorFlags;
 use link::{ObjIdx, OffsetWhence};
 
-const INT_OVERFLOW: SerializeErrorFlags = SerializeErrorFlags(8);
+const NONE: SerializeErrorFlags = SerializeErrorFlags::SERIALIZE_ERROR_NONE;
 
-const TWO_OVERFLOWS: SerializeErrorFlags = SerializeErrorFlags(24);
+const OTHER: SerializeErrorFlags = SerializeErrorFlags::SERIALIZE_ERROR_OTHER;
 
-const START: Line<'static> = Line(Call::StartSerialize, Reply::Done);
+const OFFSET_OVERFLOW: SerializeErrorFlags = SerializeErrorFlags::SERIALIZE_ERROR_OFFSET_OVERFLOW;
 
-const PUSH: Line<'static> = Line(Call::Push, Reply::Done);
+const OUT_OF_ROOM: SerializeErrorFlags = SerializeErrorFlags::SERIALIZE_ERROR_OUT_OF_ROOM;
+
+const INT_OVERFLOW: SerializeErrorFlags = SerializeErrorFlags::SERIALIZE_ERROR_INT_OVERFLOW;
+
+const ARRAY_OVERFLOW: SerializeErrorFlags = SerializeErrorFlags::SERIALIZE_ERROR_ARRAY_OVERFLOW;
+
+const TWO_OVERFLOWS: SerializeErrorFlags = SerializeErrorFlags(INT_OVERFLOW.0 | ARRAY_OVERFLOW.0);
+
+// A link from a range to the object 0: without bias and unsigned where it does not say otherwise. It is a macro,
+// since the value of a static calls no function.
+macro_rules! link {
+    ($from:literal..$to:literal, $whence:ident, $bias:literal, $is_signed:literal) => {
+        Call::AddLink {
+            from: $from,
+            to: $to,
+            number: ObjIdx(0),
+            whence: OffsetWhence::$whence,
+            bias: $bias,
+            is_signed: $is_signed,
+        }
+    };
+    ($from:literal..$to:literal, $whence:ident) => {
+        link!($from..$to, $whence, 0, false)
+    };
+    ($from:literal..$to:literal, $whence:ident, bias $bias:literal) => {
+        link!($from..$to, $whence, $bias, false)
+    };
+    ($from:literal..$to:literal, $whence:ident, signed) => {
+        link!($from..$to, $whence, 0, true)
+    };
+}
+
+const DONE: Reply = Reply::Done(Ok(()));
+
+const AT_START: Reply = Reply::Place(Ok(0));
+
+const FIRST: Reply = Reply::Number(Some(ObjIdx(0)));
+
+const START: Line<'static> = Line(Call::StartSerialize, DONE);
+
+const PUSH: Line<'static> = Line(Call::Push, DONE);
 
 const END: Line<'static> = Line(Call::EndSerialize, Reply::Nothing);
 
-// A link to the object 0, from a range, at Head, unsigned and without bias.
-const LINK_0_2: Call<'static> = Call::AddLink(0, 2, ObjIdx(0), OffsetWhence::Head, 0, false);
+const ROOT: Line<'static> = Line(Call::EmbedBytes(&[0, 0, 0, 0, 7]), AT_START);
 
-const LINK_0_5: Call<'static> = Call::AddLink(0, 5, ObjIdx(0), OffsetWhence::Head, 0, false);
+const CHILD: Line<'static> = Line(Call::EmbedBytes(&[0x0a, 0x0b]), Reply::Place(Ok(5)));
 
-const LINK_3_3: Call<'static> = Call::AddLink(3, 3, ObjIdx(0), OffsetWhence::Head, 0, false);
+const SHARED: Line<'static> = Line(Call::PopPack(true), FIRST);
 
-const LINK_3_4: Call<'static> = Call::AddLink(3, 4, ObjIdx(0), OffsetWhence::Head, 0, false);
+const KEPT: Line<'static> = Line(Call::PopPack(false), FIRST);
 
-const LINK_9_2: Call<'static> = Call::AddLink(9, 2, ObjIdx(0), OffsetWhence::Head, 0, false);
+const EMPTY: Line<'static> = Line(Call::PopPack(true), Reply::Number(None));
 
-const BIAS_1: Call<'static> = Call::AddLink(0, 2, ObjIdx(0), OffsetWhence::Head, 1, false);
+const ONE: Line<'static> = Line(Call::EmbedBytes(&[1]), AT_START);
 
-const BIAS_5: Call<'static> = Call::AddLink(0, 2, ObjIdx(0), OffsetWhence::Head, 5, false);
+const TWO: Line<'static> = Line(Call::EmbedBytes(&[1, 2]), AT_START);
 
-const BIAS_6: Call<'static> = Call::AddLink(0, 2, ObjIdx(0), OffsetWhence::Head, 6, false);
+const FOUR: Line<'static> = Line(Call::EmbedBytes(&[1, 2, 3, 4]), AT_START);
 
-const SIGNED: Call<'static> = Call::AddLink(0, 2, ObjIdx(0), OffsetWhence::Head, 0, true);
-
-const TAIL_0_2: Call<'static> = Call::AddLink(0, 2, ObjIdx(0), OffsetWhence::Tail, 0, false);
-
-const TAIL_2_4: Call<'static> = Call::AddLink(2, 4, ObjIdx(0), OffsetWhence::Tail, 0, false);
-
-const ROOT: Line<'static> = Line(Call::EmbedBytes(&[0, 0, 0, 0, 7]), Reply::Place(0));
-
-const CHILD: Line<'static> = Line(Call::EmbedBytes(&[0x0a, 0x0b]), Reply::Place(5));
-
-const SHARED: Line<'static> = Line(Call::PopPack(true), Reply::Number(0));
-
-const KEPT: Line<'static> = Line(Call::PopPack(false), Reply::Number(0));
-
-const EMPTY: Line<'static> = Line(Call::PopPack(true), Reply::NoNumber);
-
-const ONE: Line<'static> = Line(Call::EmbedBytes(&[1]), Reply::Place(0));
-
-const TWO: Line<'static> = Line(Call::EmbedBytes(&[1, 2]), Reply::Place(0));
-
-const FOUR: Line<'static> = Line(Call::EmbedBytes(&[1, 2, 3, 4]), Reply::Place(0));
-
-const NINES: Line<'static> = Line(Call::EmbedBytes(&[9, 9]), Reply::Place(0));
+const NINES: Line<'static> = Line(Call::EmbedBytes(&[9, 9]), AT_START);
 
 static SHEETS: [Sheet<'static>; 21] = [
     Sheet {
@@ -69,14 +86,14 @@ static SHEETS: [Sheet<'static>; 21] = [
             PUSH,
             CHILD,
             SHARED,
-            Line(LINK_0_2, Reply::Done),
+            Line(link!(0..2, Head), DONE),
             PUSH,
             CHILD,
             SHARED,
-            Line(TAIL_2_4, Reply::Done),
+            Line(link!(2..4, Tail), DONE),
             END,
         ],
-        flags: 0,
+        flags: NONE,
         length: 7,
         first: &[0x00, 0x05, 0x00, 0x00, 0x07, 0x0a, 0x0b],
     },
@@ -89,14 +106,14 @@ static SHEETS: [Sheet<'static>; 21] = [
             PUSH,
             CHILD,
             SHARED,
-            Line(BIAS_5, Reply::Done),
+            Line(link!(0..2, Head, bias 5), DONE),
             PUSH,
             CHILD,
             SHARED,
-            Line(TAIL_2_4, Reply::Done),
+            Line(link!(2..4, Tail), DONE),
             END,
         ],
-        flags: 0,
+        flags: NONE,
         length: 7,
         first: &[0x00, 0x00, 0x00, 0x00, 0x07, 0x0a, 0x0b],
     },
@@ -109,14 +126,14 @@ static SHEETS: [Sheet<'static>; 21] = [
             PUSH,
             CHILD,
             SHARED,
-            Line(BIAS_6, Reply::Done),
+            Line(link!(0..2, Head, bias 6), DONE),
             PUSH,
             CHILD,
             SHARED,
-            Line(TAIL_2_4, Reply::Done),
+            Line(link!(2..4, Tail), DONE),
             END,
         ],
-        flags: 1,
+        flags: OTHER,
         length: 0,
         first: &[],
     },
@@ -124,7 +141,7 @@ static SHEETS: [Sheet<'static>; 21] = [
         name: "memory of 4 takes 4 bytes",
         size: 4,
         lines: &[FOUR],
-        flags: 0,
+        flags: NONE,
         length: 4,
         first: &[1, 2, 3, 4],
     },
@@ -133,12 +150,9 @@ static SHEETS: [Sheet<'static>; 21] = [
         size: 4,
         lines: &[
             FOUR,
-            Line(
-                Call::EmbedBytes(&[5]),
-                Reply::NoPlace(SerializeErrorFlags(4)),
-            ),
+            Line(Call::EmbedBytes(&[5]), Reply::Place(Err(OUT_OF_ROOM))),
         ],
-        flags: 4,
+        flags: OUT_OF_ROOM,
         length: 0,
         first: &[],
     },
@@ -147,32 +161,26 @@ static SHEETS: [Sheet<'static>; 21] = [
         size: 16,
         lines: &[
             START,
-            Line(LINK_3_3, Reply::Done),
-            Line(LINK_9_2, Reply::Done),
+            Line(link!(3..3, Head), DONE),
+            Line(link!(9..2, Head), DONE),
         ],
-        flags: 0,
+        flags: NONE,
         length: 0,
         first: &[],
     },
     Sheet {
         name: "a link range of length 1",
         size: 16,
-        lines: &[
-            START,
-            Line(LINK_3_4, Reply::Declined(SerializeErrorFlags(1))),
-        ],
-        flags: 1,
+        lines: &[START, Line(link!(3..4, Head), Reply::Done(Err(OTHER)))],
+        flags: OTHER,
         length: 0,
         first: &[],
     },
     Sheet {
         name: "a link range of length 5",
         size: 16,
-        lines: &[
-            START,
-            Line(LINK_0_5, Reply::Declined(SerializeErrorFlags(1))),
-        ],
-        flags: 1,
+        lines: &[START, Line(link!(0..5, Head), Reply::Done(Err(OTHER)))],
+        flags: OTHER,
         length: 0,
         first: &[],
     },
@@ -184,11 +192,11 @@ static SHEETS: [Sheet<'static>; 21] = [
             PUSH,
             ONE,
             KEPT,
-            Line(Call::Pad(65535), Reply::Place(0)),
-            Line(LINK_0_2, Reply::Done),
+            Line(Call::Pad(65535), AT_START),
+            Line(link!(0..2, Head), DONE),
             END,
         ],
-        flags: 0,
+        flags: NONE,
         length: 65536,
         first: &[0xff, 0xff, 0, 0, 0, 0, 0, 0, 0, 0, 0, 0, 0, 0, 0, 0],
     },
@@ -200,11 +208,11 @@ static SHEETS: [Sheet<'static>; 21] = [
             PUSH,
             ONE,
             KEPT,
-            Line(Call::Pad(65536), Reply::Place(0)),
-            Line(LINK_0_2, Reply::Done),
+            Line(Call::Pad(65536), AT_START),
+            Line(link!(0..2, Head), DONE),
             END,
         ],
-        flags: 2,
+        flags: OFFSET_OVERFLOW,
         length: 0,
         first: &[],
     },
@@ -216,11 +224,11 @@ static SHEETS: [Sheet<'static>; 21] = [
             PUSH,
             ONE,
             KEPT,
-            Line(Call::Pad(65536), Reply::Place(0)),
-            Line(BIAS_1, Reply::Done),
+            Line(Call::Pad(65536), AT_START),
+            Line(link!(0..2, Head, bias 1), DONE),
             END,
         ],
-        flags: 0,
+        flags: NONE,
         length: 65537,
         first: &[0xff, 0xff, 0, 0, 0, 0, 0, 0, 0, 0, 0, 0, 0, 0, 0, 0],
     },
@@ -232,11 +240,11 @@ static SHEETS: [Sheet<'static>; 21] = [
             PUSH,
             ONE,
             KEPT,
-            Line(Call::Pad(32767), Reply::Place(0)),
-            Line(SIGNED, Reply::Done),
+            Line(Call::Pad(32767), AT_START),
+            Line(link!(0..2, Head, signed), DONE),
             END,
         ],
-        flags: 0,
+        flags: NONE,
         length: 32768,
         first: &[0x7f, 0xff, 0, 0, 0, 0, 0, 0, 0, 0, 0, 0, 0, 0, 0, 0],
     },
@@ -248,11 +256,11 @@ static SHEETS: [Sheet<'static>; 21] = [
             PUSH,
             ONE,
             KEPT,
-            Line(Call::Pad(32768), Reply::Place(0)),
-            Line(SIGNED, Reply::Done),
+            Line(Call::Pad(32768), AT_START),
+            Line(link!(0..2, Head, signed), DONE),
             END,
         ],
-        flags: 2,
+        flags: OFFSET_OVERFLOW,
         length: 0,
         first: &[],
     },
@@ -260,15 +268,15 @@ static SHEETS: [Sheet<'static>; 21] = [
         name: "an empty object",
         size: 8,
         lines: &[PUSH, EMPTY],
-        flags: 0,
+        flags: NONE,
         length: 0,
         first: &[],
     },
     Sheet {
         name: "an empty object with a link",
         size: 8,
-        lines: &[PUSH, Line(LINK_0_2, Reply::Done), EMPTY],
-        flags: 1,
+        lines: &[PUSH, Line(link!(0..2, Head), DONE), EMPTY],
+        flags: OTHER,
         length: 0,
         first: &[],
     },
@@ -279,16 +287,16 @@ static SHEETS: [Sheet<'static>; 21] = [
             PUSH,
             TWO,
             SHARED,
-            Line(Call::Snapshot, Reply::Taken(0, 6)),
+            Line(Call::Snapshot, Reply::Taken { head: 0, tail: 6 }),
             PUSH,
             TWO,
-            Line(Call::PopPack(false), Reply::Number(1)),
+            Line(Call::PopPack(false), Reply::Number(Some(ObjIdx(1)))),
             Line(Call::RevertSnapshot(3), Reply::Nothing),
             PUSH,
             TWO,
             SHARED,
         ],
-        flags: 0,
+        flags: NONE,
         length: 2,
         first: &[1, 2],
     },
@@ -296,7 +304,7 @@ static SHEETS: [Sheet<'static>; 21] = [
         name: "nothing is packed at the end",
         size: 8,
         lines: &[START, TWO, END],
-        flags: 0,
+        flags: NONE,
         length: 2,
         first: &[1, 2],
     },
@@ -309,7 +317,7 @@ static SHEETS: [Sheet<'static>; 21] = [
             Line(Call::SetErr(INT_OVERFLOW), Reply::Flags(INT_OVERFLOW)),
             SHARED,
         ],
-        flags: 8,
+        flags: INT_OVERFLOW,
         length: 0,
         first: &[],
     },
@@ -322,23 +330,37 @@ static SHEETS: [Sheet<'static>; 21] = [
             Line(Call::SetErr(TWO_OVERFLOWS), Reply::Flags(TWO_OVERFLOWS)),
             EMPTY,
         ],
-        flags: 24,
+        flags: TWO_OVERFLOWS,
         length: 0,
         first: &[],
     },
     Sheet {
         name: "a link to its own object at Head",
         size: 16,
-        lines: &[START, PUSH, NINES, Line(LINK_0_2, Reply::Done), SHARED, END],
-        flags: 0,
+        lines: &[
+            START,
+            PUSH,
+            NINES,
+            Line(link!(0..2, Head), DONE),
+            SHARED,
+            END,
+        ],
+        flags: NONE,
         length: 2,
         first: &[0, 0],
     },
     Sheet {
         name: "a link to its own object at Tail",
         size: 16,
-        lines: &[START, PUSH, NINES, Line(TAIL_0_2, Reply::Done), SHARED, END],
-        flags: 1,
+        lines: &[
+            START,
+            PUSH,
+            NINES,
+            Line(link!(0..2, Tail), DONE),
+            SHARED,
+            END,
+        ],
+        flags: OTHER,
         length: 0,
         first: &[],
     },
