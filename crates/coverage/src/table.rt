@@ -1,13 +1,14 @@
-// Writing a Coverage table of format 1 field by field, each at the head of what is still free.
-ghost use Rattle.std.specs.Prelude.{◌≡◌, ◌+◌, ◌*◌, ◌≤◌, ◌++◌, length, take, vec_len};
-ghost use Rattle.cursor.specs.Cursor.{At};
-ghost use Rattle.coverage.specs.Coverage.{coverage_format1, glyph_array};
+// Writing a Coverage table of format 1 field by field, and why there may be none.
+ghost use Rattle.std.specs.Prelude.{◌≡◌, ◌≤◌, ◌++◌, length, IfOk, OnOk};
+ghost use Rattle.scalar.specs.BigEndian.{big_endian};
+ghost use Rattle.coverage.specs.Coverage.{glyph_array};
 ghost use Rattle.coverage.specs.Built.{Built};
+ghost use Rattle.coverage.specs.declared.table.CoverageFault.TheVariants.{NoMemory};
 
-use cursor::cursor::Cursor;
-use scalar::buffer::write_at;
 use scalar::{CountScalar, Scalar};
-use std::alloc::Global;
+use std::alloc::{AllocError, Global};
+use std::error::Error;
+use std::fmt;
 
 // The format of a plain list of glyphs; the other one lists ranges.
 const FORMAT: u16 = 1;
@@ -20,55 +21,53 @@ pub enum CoverageFault {
     NoMemory,
 }
 
-// Puts a scalar at the head.
-fn embed<S: Scalar + Copy>(bytes: &mut Vec<u8>, cursor: &mut Cursor, value: S)
-    requires sized { vec_len bytes.old ≡ cursor.old.end }
-    requires room { cursor.old.head + S.Scalar.width ≤ cursor.old.tail }
-    ensures cursor { At cursor.new (cursor.old.head + S.Scalar.width) cursor.old.tail cursor.old.end }
-    ensures front { take (cursor.old.head + S.Scalar.width) bytes.new.items ≡ take cursor.old.head bytes.old.items ++ S.Scalar.bytes value }
-    ensures len { vec_len bytes.new ≡ vec_len bytes.old }
-{
-    let Ok(place) = cursor.advance(S::size()) else {
-        return;
-    };
-    write_at(bytes, place, value);
-}
-
-// Puts the ids one after another.
-fn embed_all(bytes: &mut Vec<u8>, cursor: &mut Cursor, glyphs: &[u16])
-    requires sized { vec_len bytes.old ≡ cursor.old.end }
-    requires room { cursor.old.head + 2 * length glyphs.now ≤ cursor.old.tail }
-    ensures front { take (cursor.old.head + 2 * length glyphs.now) bytes.new.items ≡ take cursor.old.head bytes.old.items ++ glyph_array glyphs.now }
-    ensures len { vec_len bytes.new ≡ vec_len bytes.old }
-{
-    for glyph in glyphs {
-        embed(bytes, cursor, *glyph);
+impl fmt::Display for CoverageFault {
+    fn fmt<W: fmt::Write>(&self, f: &mut fmt::Formatter<W>) -> fmt::Result {
+        match self {
+            CoverageFault::TooManyGlyphs(count) => write!(
+                f,
+                "{count} glyphs are more than a Coverage table of format 1 counts"
+            ),
+            CoverageFault::NoMemory => f.write_str("no memory for the table"),
+        }
     }
 }
 
-// Fills memory of just the table's size.
-fn fill(bytes: &mut Vec<u8>, format: u16, count: u16, glyphs: &[u16])
-    requires first { format ≡ 1 }
-    requires counted { count ≡ length glyphs.now }
-    requires sized { vec_len bytes.old ≡ 4 + 2 * length glyphs.now }
-    ensures state { bytes.new.items ≡ coverage_format1 glyphs.now }
+impl Error for CoverageFault {}
+
+impl From<AllocError> for CoverageFault {
+    ghost from_gives = { λ _ fault. fault ≡ NoMemory };
+
+    fn from(_error: AllocError) -> CoverageFault {
+        CoverageFault::NoMemory
+    }
+}
+
+// Puts a scalar at the end of a table.
+fn embed<S: Scalar>(table: &mut Vec<u8>, value: S) -> Result<(), AllocError>
+    ensures state { OnOk result (table.new.items ≡ table.old.items ++ S.Scalar.bytes value) }
 {
-    let mut cursor = Cursor::new(bytes.len());
-    embed(bytes, &mut cursor, format);
-    embed(bytes, &mut cursor, count);
-    embed_all(bytes, &mut cursor, glyphs);
+    table.extend_from_slice(&value.raw()[0..S::size()])
+}
+
+// The table of a format, a count and ids.
+fn written(heap: Global, format: u16, count: u16, glyphs: &[u16]) -> Result<Vec<u8>, AllocError>
+    requires counted { length glyphs.now ≤ 65535 }
+    ensures answer { IfOk result (λ table. table.items ≡ big_endian 2 format ++ (big_endian 2 count ++ glyph_array glyphs.now)) }
+{
+    let mut table = Vec::with_capacity(heap, 4 + 2 * glyphs.len())?;
+    embed(&mut table, format)?;
+    embed(&mut table, count)?;
+    for glyph in glyphs {
+        embed(&mut table, *glyph)?;
+    }
+    Ok(table)
 }
 
 // The table of these glyphs, unless there are too many or no memory is left for it.
 pub fn coverage_table(heap: Global, glyphs: &[u16]) -> Result<Vec<u8>, CoverageFault>
     ensures answer { Built glyphs.now result }
 {
-    let Some(count) = u16::from_count(glyphs.len()) else {
-        return Err(CoverageFault::TooManyGlyphs(glyphs.len()));
-    };
-    let Ok(mut bytes) = vec![in heap; 0u8; 4 + 2 * glyphs.len()] else {
-        return Err(CoverageFault::NoMemory);
-    };
-    fill(&mut bytes, FORMAT, count, glyphs);
-    Ok(bytes)
+    let count = u16::from_count(glyphs.len()).ok_or(CoverageFault::TooManyGlyphs(glyphs.len()))?;
+    Ok(written(heap, FORMAT, count, glyphs)?)
 }

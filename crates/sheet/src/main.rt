@@ -2,12 +2,11 @@
 #![tactic(auto)]
 
 use anyhow::anyhow;
-use coverage::glyph_set;
-use coverage::table::{CoverageFault, coverage_table};
+use coverage::{CoverageFault, coverage_table, glyph_set};
 use fnv::fnv1a;
-use scalar::buffer::read_at;
+use scalar::read_at;
 use std::alloc::{AllocError, Global};
-use std::{env, fs, io};
+use std::{env, fmt, fs, io};
 
 const DEFAULT_INPUT: &str = "glyphs.txt";
 
@@ -16,6 +15,16 @@ const DEFAULT_INPUT: &str = "glyphs.txt";
 struct BadLine {
     number: usize,
     text: String,
+}
+
+impl fmt::Display for BadLine {
+    fn fmt<W: fmt::Write>(&self, f: &mut fmt::Formatter<W>) -> fmt::Result {
+        let BadLine { number, text } = self;
+        write!(
+            f,
+            "line {number}: expected a glyph id below 65536, found \"{text}\""
+        )
+    }
 }
 
 // What a file of glyph ids says, line by line.
@@ -48,32 +57,31 @@ fn read_lines(heap: Global, text: &str) -> Result<GlyphFile, AllocError> {
 
 fn report_bad_lines(rt: &HostRuntime, path: &str, bad: &[BadLine]) -> io::Result<()> {
     for line in bad {
-        let number = line.number;
-        let text = line.text.as_str();
-        println!(rt; "{path}, line {number}: expected a glyph id below 65536, found \"{text}\"")?;
+        println!(rt; "{path}, {line}")?;
     }
     Ok(())
 }
 
 // One uint16 of the table: its place, its bytes, its name and its value.
-fn show_field(rt: &HostRuntime, table: &[u8], place: usize, name: &str) -> io::Result<()> {
+fn show_field<N: fmt::Display + Drop>(
+    rt: &HostRuntime,
+    table: &[u8],
+    place: usize,
+    name: N,
+) -> io::Result<()> {
     let Some(value) = read_at::<u16>(table, place) else {
         return println!(rt; "{place:>6}  past the end  {name}");
     };
-    let high = value / 256;
-    let low = value % 256;
+    let [high, low] = value.to_be_bytes();
     println!(rt; "{place:>6}  {high:02x} {low:02x}  {name} = {value}")
 }
 
-fn show_table(rt: &HostRuntime, table: &[u8], glyphs: usize) -> io::Result<()> {
+fn show_table(rt: &HostRuntime, table: &[u8]) -> io::Result<()> {
     println!(rt; " place  bytes  field")?;
     show_field(rt, table, 0, "coverageFormat")?;
     show_field(rt, table, 2, "glyphCount")?;
-    let mut place = 4usize;
-    for i in 0..glyphs {
-        let name = format!(in rt.alloc(); "glyphArray[{i}]")?;
-        show_field(rt, table, place, name.as_str())?;
-        place = place.saturating_add(2);
+    for (i, place) in (4..table.len()).step_by(2).enumerate() {
+        show_field(rt, table, place, format_args!("glyphArray[{i}]"))?;
     }
     print!(rt; "table ")?;
     for byte in table {
@@ -85,23 +93,19 @@ fn show_table(rt: &HostRuntime, table: &[u8], glyphs: usize) -> io::Result<()> {
 fn build(rt: &HostRuntime, ids: Vec<u16>) -> anyhow::Result<()> {
     let lines = ids.len();
     let glyphs = glyph_set(ids);
-    let count = glyphs.len();
-    println!(rt; "{lines} ids read, {count} glyphs in use")?;
+    println!(rt; "{lines} ids read, {} glyphs in use", glyphs.len())?;
     match coverage_table(rt.alloc(), &glyphs) {
         Ok(table) => {
-            show_table(rt, &table, count)?;
-            let size = table.len();
+            show_table(rt, &table)?;
             let hash = fnv1a(&table);
-            println!(rt; "{size} bytes, FNV-1a {hash:016x}")?;
+            println!(rt; "{} bytes, FNV-1a {hash:016x}", table.len())?;
             Ok(())
         }
-        Err(CoverageFault::TooManyGlyphs(n)) => {
-            println!(rt; "{n} glyphs are more than a Coverage table of format 1 counts")?;
+        Err(fault @ CoverageFault::TooManyGlyphs(_)) => {
+            println!(rt; "{fault}")?;
             Err(anyhow!("nothing was written"))
         }
-        Err(CoverageFault::NoMemory) => Err(anyhow!(
-            "no memory for the table: nothing was written"
-        )),
+        Err(fault @ CoverageFault::NoMemory) => Err(anyhow!("{fault}: nothing was written")),
     }
 }
 
