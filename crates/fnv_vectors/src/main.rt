@@ -28,15 +28,13 @@ static VECTORS: [Vector<'static>; 16] = [
 ];
 
 fn main(rt: HostRuntime) -> anyhow::Result<()> {
-    for vector in &VECTORS {
-        let hash = fnv1a(vector.0);
-        let expected = vector.1;
-        if hash != expected {
-            println!(rt; "hashed {hash:016x}, published {expected:016x}")?;
+    for Vector(text, published) in &VECTORS {
+        let hash = fnv1a(text);
+        if hash != *published {
+            println!(rt; "hashed {hash:016x}, published {published:016x}")?;
             return Err(anyhow!("a published vector of FNV-1a differs"));
         }
     }
-    let count = VECTORS.len();
-    println!(rt; "{count} published vectors of FNV-1a agree")?;
+    println!(rt; "{} published vectors of FNV-1a agree", VECTORS.len())?;
     Ok(())
 }
