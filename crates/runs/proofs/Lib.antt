@@ -1,4 +1,3 @@
 mod Count
-mod Output
 mod Taken
 mod Going

@@ -1,13 +1,15 @@
 -- Calls made one after another, the first of a list first.
-use Rattle.std.specs.Prelude.{List, [], ◌∷◌}
-use Rattle.model.specs.State.{State}
-use Rattle.model.specs.Run.{Call, Answer, World, step}
+use Rattle.std.specs.Prelude.{List, vec_items}
+use Rattle.std.specs.List.{fold}
+use Rattle.model.specs.Run.{Call, World, step}
 use Rattle.register.specs.Pairs.{Pairs}
+use Rattle.runs.specs.Told.{told}
+use Rattle.runs.specs.declared.outcome.Outcome.{Outcome}
 
--- where calls lead from a state, a register and the answers so far
+-- where calls lead from a moment
 abbrev pub gone : World → List Call → World
-gone w [] = w
-gone w (◌∷◌ c cs) = gone (step c w) cs
+gone w cs = fold (λ v c. step c v) w cs
 
-abbrev pub world : State → Pairs → List Answer → World
-world s r an = record { state = s; register = r; answers = an }
+-- the moment at which a serializer, with the answers that it gave, stands beside a register
+abbrev pub world_of : Outcome → Pairs → World
+world_of o r = record { state = o.serializer; register = r; answers = told (vec_items o.answers) }

@@ -7,7 +7,6 @@ use Rattle.calls.specs.Meaning.{call_of}
 use Rattle.calls.specs.declared.call.Call.{Call}
 use Rattle.serializer_new.specs.declared.storage.Memory.{Memory}
 use Rattle.serializer_new.specs.Amount.{size_of, slots_of, cells_of}
-use Rattle.serialize.specs.View.{view}
 use Rattle.runs.specs.declared.outcome.Outcome.{Outcome}
 use Rattle.runs.specs.Told.{told}
 
@@ -19,5 +18,5 @@ abbrev pub beginning : Memory → Pairs → Beginning
 beginning m r = record { size = size_of m; slots = slots_of m; cells = cells_of m; register = r }
 
 pub record Ran (w : World) (o : Outcome) : Type 0 where
-  pub state : view o.serializer ≡ w.state
+  pub state : o.serializer ≡ w.state
   pub answers : told (vec_items o.answers) ≡ w.answers

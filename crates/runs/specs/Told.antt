@@ -1,15 +1,17 @@
 -- The answers of the model that the answers of a list stand for.
-use Rattle.std.specs.Prelude.{List, map, reverse, vec_items}
+use Rattle.std.specs.Prelude.{ℕ, List, map, reverse, Vec, vec_items}
 use Rattle.std.specs.Option.{option_map}
 use Rattle.model.specs.Run as model
 use Rattle.model.specs.Reading.{Seen}
 use Rattle.calls.specs.Meaning.{scalar_bytes}
 use Rattle.runs.specs.declared.answer.Answer.{Answer}
 use Rattle.runs.specs.declared.answer.Answer.TheVariants as answer
-use Rattle.runs.specs.declared.answer.SeenObject.{SeenObject}
+use Rattle.serializer_read.specs.declared.view.ObjectView.{ObjectView}
+use Rattle.serializer_read.specs.Reads.{seen_by}
 
-abbrev pub seen_as : SeenObject → Seen
-seen_as o = record { head = o.head; tail = o.tail; real = o.num_real_links; virtual = o.num_virtual_links; bytes = vec_items o.bytes }
+-- an object with a copy of its bytes
+abbrev pub seen_as : {A : Type 0} → ObjectView (Vec ℕ A) → Seen
+seen_as o = seen_by vec_items o
 
 -- a scalar goes by its bytes
 abbrev pub answer_of : Answer → model.Answer

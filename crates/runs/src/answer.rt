@@ -3,16 +3,10 @@ use calls::ScalarValue;
 use cursor::flags::SerializeErrorFlags;
 use link::{Link, ObjIdx};
 use model::snapshot::Snapshot;
+use serialize::ObjectView;
 
-// A packed object as it was read: where it lay, how many links it had, and its bytes.
-#[derive(Drop)]
-pub struct SeenObject {
-    pub head: usize,
-    pub tail: usize,
-    pub num_real_links: usize,
-    pub num_virtual_links: usize,
-    pub bytes: Vec<u8>,
-}
+// A packed object as it was read, with a copy of its bytes.
+pub type SeenObject = ObjectView<Vec<u8>>;
 
 #[derive(Drop)]
 pub enum Answer {

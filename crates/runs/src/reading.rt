@@ -1,52 +1,60 @@
 // The calls that only read.
-ghost use Rattle.std.specs.Prelude.{◌≡◌, IfOk, vec_items};
+ghost use Rattle.std.specs.Prelude.{◌≡◌, IfOk, length, vec_items};
 ghost use Rattle.std.specs.Option.{option_map};
 ghost use Rattle.model.specs.Reading.{copied, object as object_seen};
 ghost use Rattle.model.specs.Run.{reading};
 ghost use Rattle.calls.specs.Meaning.{reading_of};
-ghost use Rattle.serialize.specs.View.{view};
+ghost use Rattle.serializer_read.specs.Reads.{seen_in};
 ghost use Rattle.runs.specs.Told.{answer_of, seen_as};
 
 use crate::answer::{Answer, SeenObject};
 use crate::scalars::get_value_at;
 use calls::Reading;
 use link::ObjIdx;
-use serialize::Serializer;
+use serialize::{ObjectView, Serializer};
 use std::alloc::{AllocError, Global};
+
+// The output, over the start of a vector that is cut to it, if it has room there.
+fn copied_over(mut out: Vec<u8>, s: &Serializer) -> Option<Vec<u8>>
+    ensures answer { option_map vec_items result ≡ copied (length out.items) s.now }
+{
+    let count = s.copy_bytes(&mut out)?;
+    out.truncate(count);
+    Some(out)
+}
 
 // The output, in a vector of its own, if it has at most so many bytes.
 fn copy_bytes(heap: Global, s: &Serializer, room: usize) -> Result<Option<Vec<u8>>, AllocError>
-    ensures answer { IfOk result (λ o. option_map vec_items o ≡ copied room (view s.now)) }
+    ensures answer { IfOk result (λ o. option_map vec_items o ≡ copied room s.now) }
 {
-    let mut out = vec![in heap; 0u8; room]?;
-    match s.copy_bytes(&mut out) {
-        Some(count) => {
-            out.truncate(count);
-            Ok(Some(out))
-        }
-        None => Ok(None),
-    }
+    Ok(copied_over(vec![in heap; 0u8; room]?, s))
 }
 
-// A packed object, with a copy of its bytes.
-fn object(heap: Global, s: &Serializer, number: ObjIdx) -> Result<Option<SeenObject>, AllocError>
-    ensures answer { IfOk result (λ o. option_map seen_as o ≡ object_seen number (view s.now)) }
+// The object that was handed out, with a copy of its bytes.
+fn keep(heap: Global, object: ObjectView<&[u8]>) -> Result<SeenObject, AllocError>
+    ensures answer { IfOk result (λ o. seen_as o ≡ seen_in object.entry) }
 {
-    let Some(object) = s.object(number) else {
-        return Ok(None);
-    };
-    Ok(Some(SeenObject {
+    Ok(ObjectView {
         head: object.head,
         tail: object.tail,
         num_real_links: object.num_real_links,
         num_virtual_links: object.num_virtual_links,
         bytes: object.bytes.to_vec(heap)?,
-    }))
+    })
+}
+
+// A packed object, with a copy of its bytes.
+fn object(heap: Global, s: &Serializer, number: ObjIdx) -> Result<Option<SeenObject>, AllocError>
+    ensures answer { IfOk result (λ o. option_map seen_as o ≡ object_seen number s.now) }
+{
+    s.object(number)
+        .map(|object| keep(heap, object))
+        .transpose()
 }
 
 // Makes a call that only reads. Only the bytes that it answers take memory.
 pub(crate) fn read(heap: Global, s: &Serializer, what: Reading) -> Result<Answer, AllocError>
-    ensures answer { IfOk result (λ a. answer_of a ≡ reading (reading_of what) (view s.now)) }
+    ensures answer { IfOk result (λ a. answer_of a ≡ reading (reading_of what) s.now) }
 {
     match what {
         Reading::Error => Ok(Answer::Flags(s.error())),

@@ -5,13 +5,12 @@ ghost use Rattle.scalar.specs.Kinds.{value_of};
 ghost use Rattle.model.specs.Writing.{embed as embedded, copy_assign, check_assign};
 ghost use Rattle.model.specs.Reading.{value_at};
 ghost use Rattle.calls.specs.Meaning.{scalar_bytes, width_of, count_bytes};
-ghost use Rattle.serialize.specs.View.{view};
 ghost use Rattle.scalar.specs.BigEndian.{big_endian};
 
 use calls::{CountKind, ScalarKind, ScalarValue};
 use cursor::flags::SerializeErrorFlags;
 use scalar::Scalar;
-use scalar::kinds::{Tag, Uint24};
+use scalar::kinds::Uint24;
 use serialize::Serializer;
 
 // The low 24 bits of a number.
@@ -22,10 +21,11 @@ fn low_bits(value: u32) -> Uint24
     Uint24::from_raw([a, b, c, 0])
 }
 
-// `embed` at a scalar of any kind.
+// `embed` at a scalar of any kind. It and `copy_assign` are a match each: a closure takes values of one type, and
+// each kind is a type of its own.
 pub(crate) fn embed(s: &mut Serializer, value: ScalarValue) -> Result<usize, SerializeErrorFlags>
-    ensures answer { result ≡ (embedded (scalar_bytes value) (view s.old)).1 }
-    ensures state { view s.new ≡ (embedded (scalar_bytes value) (view s.old)).0 }
+    ensures answer { result ≡ (embedded (scalar_bytes value) s.old).1 }
+    ensures state { s.new ≡ (embedded (scalar_bytes value) s.old).0 }
 {
     match value {
         ScalarValue::U8(x) => s.embed(x),
@@ -39,7 +39,7 @@ pub(crate) fn embed(s: &mut Serializer, value: ScalarValue) -> Result<usize, Ser
 
 // `copy_assign` at a scalar of any kind.
 pub(crate) fn copy_assign(s: &mut Serializer, pos: usize, value: ScalarValue)
-    ensures state { view s.new ≡ copy_assign pos (scalar_bytes value) (view s.old) }
+    ensures state { s.new ≡ copy_assign pos (scalar_bytes value) s.old }
 {
     match value {
         ScalarValue::U8(x) => s.copy_assign(pos, x),
@@ -59,8 +59,8 @@ pub(crate) fn check_assign(
     count: usize,
     flags: SerializeErrorFlags,
 ) -> Result<(), SerializeErrorFlags>
-    ensures answer { result ≡ (check_assign pos (count_bytes kind count) flags (view s.old)).1 }
-    ensures state { view s.new ≡ (check_assign pos (count_bytes kind count) flags (view s.old)).0 }
+    ensures answer { result ≡ (check_assign pos (count_bytes kind count) flags s.old).1 }
+    ensures state { s.new ≡ (check_assign pos (count_bytes kind count) flags s.old).0 }
 {
     match kind {
         CountKind::U8 => s.check_assign::<u8>(pos, count, flags),
@@ -73,20 +73,17 @@ pub(crate) fn check_assign(
 
 // `get_value_at` at a kind of scalar.
 pub(crate) fn get_value_at(s: &Serializer, kind: ScalarKind, pos: usize) -> Option<ScalarValue>
-    ensures answer { option_map scalar_bytes result ≡ value_at (λ bs. bs) (width_of kind) pos (view s.now) }
+    ensures answer { option_map scalar_bytes result ≡ value_at (λ bs. bs) (width_of kind) pos s.now }
 {
     match kind {
-        ScalarKind::U8 => Some(ScalarValue::U8(s.get_value_at(pos)?)),
-        ScalarKind::U16 => Some(ScalarValue::U16(s.get_value_at(pos)?)),
-        ScalarKind::I16 => Some(ScalarValue::I16(s.get_value_at(pos)?)),
-        ScalarKind::U32 => Some(ScalarValue::U32(s.get_value_at(pos)?)),
-        ScalarKind::U24 => {
-            let value: Uint24 = s.get_value_at(pos)?;
-            Some(ScalarValue::U24(value.to_u32()))
-        }
-        ScalarKind::Tag => {
-            let tag: Tag = s.get_value_at(pos)?;
-            Some(ScalarValue::Tag(tag))
-        }
+        ScalarKind::U8 => s.get_value_at(pos).map(ScalarValue::U8),
+        ScalarKind::U16 => s.get_value_at(pos).map(ScalarValue::U16),
+        ScalarKind::I16 => s.get_value_at(pos).map(ScalarValue::I16),
+        ScalarKind::U32 => s.get_value_at(pos).map(ScalarValue::U32),
+        ScalarKind::U24 => s
+            .get_value_at(pos)
+            .map(Uint24::to_u32)
+            .map(ScalarValue::U24),
+        ScalarKind::Tag => s.get_value_at(pos).map(ScalarValue::Tag),
     }
 }

@@ -2,7 +2,6 @@
 ghost use Rattle.std.specs.Prelude.{◌≡◌, IfOk};
 ghost use Rattle.model.specs.Run.{call as call_made, taken, taken_at, revert_to};
 ghost use Rattle.calls.specs.Meaning.{call_of};
-ghost use Rattle.serialize.specs.View.{view};
 ghost use Rattle.runs.specs.Told.{answer_of, told};
 
 use crate::answer::Answer;
@@ -14,7 +13,8 @@ use register::Register;
 use serialize::Serializer;
 use std::alloc::{AllocError, Global};
 
-// A snapshot once more.
+// A snapshot once more, field by field: a revert uses its snapshot up, so a snapshot has no Clone, and here the
+// answer keeps its own.
 fn again(snapshot: &Snapshot) -> Snapshot
     ensures answer { result ≡ snapshot.now }
 {
@@ -39,19 +39,16 @@ fn taken_by(answer: &Answer) -> Option<Snapshot>
 }
 
 // The snapshot that the n-th call of a list took, counted from 0, if it took one.
-fn snapshot_at(answers: &Vec<Answer>, n: usize) -> Option<Snapshot>
-    ensures answer { result ≡ taken_at (told answers.now.items) n }
+fn snapshot_at(answers: &[Answer], n: usize) -> Option<Snapshot>
+    ensures answer { result ≡ taken_at (told answers.now) n }
 {
-    if n >= answers.len() {
-        return None;
-    }
-    taken_by(&answers[n])
+    answers.get(n).and_then(taken_by)
 }
 
 // Goes back to a snapshot, if there is one.
 fn revert<R: Register>(s: &mut Serializer, register: &mut R, snapshot: Option<Snapshot>)
-    ensures state { view s.new ≡ (revert_to snapshot (view s.old) (R.Register.holds register.old)).state }
-    ensures register { R.Register.holds register.new ≡ (revert_to snapshot (view s.old) (R.Register.holds register.old)).register }
+    ensures state { s.new ≡ (revert_to snapshot s.old (R.Register.holds register.old)).state }
+    ensures register { R.Register.holds register.new ≡ (revert_to snapshot s.old (R.Register.holds register.old)).register }
 {
     if let Some(snapshot) = snapshot {
         s.revert_snapshot(snapshot, register);
@@ -64,12 +61,12 @@ pub(crate) fn step<R: Register>(
     heap: Global,
     s: &mut Serializer,
     register: &mut R,
-    answers: &Vec<Answer>,
+    answers: &[Answer],
     next: Call<'_>,
 ) -> Result<Answer, AllocError>
-    ensures answer { IfOk result (λ a. answer_of a ≡ (call_made (call_of next.entry) (view s.old) (R.Register.holds register.old) (told answers.now.items)).answer) }
-    ensures state { view s.new ≡ (call_made (call_of next.entry) (view s.old) (R.Register.holds register.old) (told answers.now.items)).state }
-    ensures register { R.Register.holds register.new ≡ (call_made (call_of next.entry) (view s.old) (R.Register.holds register.old) (told answers.now.items)).register }
+    ensures answer { IfOk result (λ a. answer_of a ≡ (call_made (call_of next.entry) s.old (R.Register.holds register.old) (told answers.now)).answer) }
+    ensures state { s.new ≡ (call_made (call_of next.entry) s.old (R.Register.holds register.old) (told answers.now)).state }
+    ensures register { R.Register.holds register.new ≡ (call_made (call_of next.entry) s.old (R.Register.holds register.old) (told answers.now)).register }
 {
     match next {
         Call::SetErr(flags) => Ok(Answer::Flags(s.set_err(flags))),

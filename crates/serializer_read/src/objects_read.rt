@@ -12,12 +12,10 @@ use objects::Which;
 use serializer_state::SerializerState;
 
 // The packed object of a number, if there is one.
-pub fn object(s: &SerializerState, number: ObjIdx) -> Option<ObjectView<'_>>
+pub fn object(s: &SerializerState, number: ObjIdx) -> Option<ObjectView<&[u8]>>
     ensures answer { option_map seen_in result ≡ object_seen number (view s.now) }
 {
-    let Some(outline) = s.objects.outline(Which::Numbered(number)) else {
-        return None;
-    };
+    let outline = s.objects.outline(Which::Numbered(number))?;
     Some(ObjectView {
         head: outline.extent.head,
         tail: outline.extent.tail,

@@ -1,15 +1,12 @@
 // Running a list of calls.
-ghost use Rattle.std.specs.Prelude.{◌≡◌, [], map, IfOk, OnOk};
+ghost use Rattle.std.specs.Prelude.{◌≡◌, map, IfOk, OnOk};
 ghost use Rattle.model.specs.Law.{Law};
-ghost use Rattle.model.specs.Run.{run as run_of};
+ghost use Rattle.model.specs.Run.{run as run_of, step as step_of};
 ghost use Rattle.calls.specs.Meaning.{call_of};
-ghost use Rattle.serialize.specs.View.{view};
-ghost use Rattle.runs.specs.Told.{told};
-ghost use Rattle.runs.specs.Going.{gone, world};
+ghost use Rattle.runs.specs.Going.{gone, world_of};
 ghost use Rattle.runs.specs.Ran.{Ran, calls_of, beginning};
 
 use super::Outcome;
-use crate::answer::Answer;
 use crate::steps::step;
 use calls::Call;
 use model::law_stands;
@@ -17,21 +14,35 @@ use register::Register;
 use serialize::{Memory, Serializer};
 use std::alloc::{AllocError, Global};
 
-// Makes calls one after another, and collects what they answer.
-fn make_all<R: Register>(
-    heap: Global,
-    s: &mut Serializer,
-    register: &mut R,
-    list: &[Call<'_>],
-) -> Result<Vec<Answer>, AllocError>
-    ensures went { IfOk result (λ answers. world (view s.new) (R.Register.holds register.new) (told answers.items) ≡ gone (world (view s.old) (R.Register.holds register.old) []) (map call_of list.now)) }
-{
-    let mut answers = Vec::with_capacity(heap, list.len())?;
-    for next in list {
-        let answer = step(heap, s, register, &answers, *next)?;
-        answers.push(answer)?;
+impl Outcome {
+    // Makes a call and keeps what it answers.
+    fn make<R: Register>(
+        &mut self,
+        heap: Global,
+        register: &mut R,
+        next: Call<'_>,
+    ) -> Result<(), AllocError>
+        ensures went { OnOk result (world_of self.new (R.Register.holds register.new) ≡ step_of (call_of next.entry) (world_of self.old (R.Register.holds register.old))) }
+    {
+        let answer = step(heap, &mut self.serializer, register, &self.answers, next)?;
+        self.answers.push(answer)?;
+        Ok(())
     }
-    Ok(answers)
+
+    // Makes calls one after another.
+    fn make_all<R: Register>(
+        &mut self,
+        heap: Global,
+        register: &mut R,
+        list: &[Call<'_>],
+    ) -> Result<(), AllocError>
+        ensures went { OnOk result (world_of self.new (R.Register.holds register.new) ≡ gone (world_of self.old (R.Register.holds register.old)) (map call_of list.now)) }
+    {
+        for next in list {
+            self.make(heap, register, *next)?;
+        }
+        Ok(())
+    }
 }
 
 // Makes a serializer over a memory and runs a list of calls on it. It fails only for want of memory for the
@@ -52,10 +63,10 @@ pub fn run<R: Register>(
     ensures law { Law (beginning memory (R.Register.holds register.old)) (calls_of list.now) }
 {
     law_stands();
-    let mut serializer = Serializer::new(memory, register);
-    let answers = make_all(heap, &mut serializer, register, list)?;
-    Ok(Outcome {
-        serializer,
-        answers,
-    })
+    let mut outcome = Outcome {
+        serializer: Serializer::new(memory, register),
+        answers: Vec::with_capacity(heap, list.len())?,
+    };
+    outcome.make_all(heap, register, list)?;
+    Ok(outcome)
 }

@@ -1,7 +1,6 @@
 // Links of the open object.
 ghost use Rattle.std.specs.Prelude.{◌≡◌};
 ghost use Rattle.model.specs.Linking.{add_link, add_virtual_link, repack_last, last_added_child_index};
-ghost use Rattle.serialize.specs.View.{view};
 
 use super::Serializer;
 use cursor::flags::SerializeErrorFlags;
@@ -19,8 +18,8 @@ impl Serializer {
         bias: u32,
         is_signed: bool,
     ) -> Result<(), SerializeErrorFlags>
-        ensures answer { result ≡ (add_link offset_byte_range.start offset_byte_range.end obj_idx whence bias is_signed (view self.old)).1 }
-        ensures state { view self.new ≡ (add_link offset_byte_range.start offset_byte_range.end obj_idx whence bias is_signed (view self.old)).0 }
+        ensures answer { result ≡ (add_link offset_byte_range.start offset_byte_range.end obj_idx whence bias is_signed self.old).1 }
+        ensures state { self.new ≡ (add_link offset_byte_range.start offset_byte_range.end obj_idx whence bias is_signed self.old).0 }
     {
         let Range { start, end } = offset_byte_range;
         serializer_link::add_link(
@@ -36,15 +35,15 @@ impl Serializer {
 
     // Orders the open object before another one.
     pub fn add_virtual_link(&mut self, obj_idx: ObjIdx) -> Result<(), SerializeErrorFlags>
-        ensures answer { result ≡ (add_virtual_link obj_idx (view self.old)).1 }
-        ensures state { view self.new ≡ (add_virtual_link obj_idx (view self.old)).0 }
+        ensures answer { result ≡ (add_virtual_link obj_idx self.old).1 }
+        ensures state { self.new ≡ (add_virtual_link obj_idx self.old).0 }
     {
         serializer_link::add_virtual_link(&mut self.state, obj_idx)
     }
 
     // The object that the open object's last link leads to.
     pub fn last_added_child_index(&self) -> Option<ObjIdx>
-        ensures answer { result ≡ last_added_child_index (view self.now) }
+        ensures answer { result ≡ last_added_child_index self.now }
     {
         serializer_link::last_added_child_index(&self.state)
     }
@@ -52,8 +51,8 @@ impl Serializer {
     // Orders the children of the open object, but for that object itself, before an object, so that it is laid
     // out after them.
     pub fn repack_last(&mut self, obj_idx: ObjIdx) -> Result<(), SerializeErrorFlags>
-        ensures answer { result ≡ (repack_last obj_idx (view self.old)).1 }
-        ensures state { view self.new ≡ (repack_last obj_idx (view self.old)).0 }
+        ensures answer { result ≡ (repack_last obj_idx self.old).1 }
+        ensures state { self.new ≡ (repack_last obj_idx self.old).0 }
     {
         serializer_link::repack_last(&mut self.state, obj_idx)
     }

@@ -1,7 +1,6 @@
 // Opening objects.
 ghost use Rattle.std.specs.Prelude.{◌≡◌};
 ghost use Rattle.model.specs.Opening.{push as pushed, start_serialize};
-ghost use Rattle.serialize.specs.View.{view};
 
 use super::Serializer;
 use cursor::flags::SerializeErrorFlags;
@@ -9,16 +8,16 @@ use cursor::flags::SerializeErrorFlags;
 impl Serializer {
     // Opens the first object: declined while one is open.
     pub fn start_serialize(&mut self) -> Result<(), SerializeErrorFlags>
-        ensures answer { result ≡ (start_serialize (view self.old)).1 }
-        ensures state { view self.new ≡ (start_serialize (view self.old)).0 }
+        ensures answer { result ≡ (start_serialize self.old).1 }
+        ensures state { self.new ≡ (start_serialize self.old).0 }
     {
         serializer_write::start_serialize(&mut self.state)
     }
 
     // Opens an object inside the open one, if any.
     pub fn push(&mut self) -> Result<(), SerializeErrorFlags>
-        ensures answer { result ≡ (pushed (view self.old)).1 }
-        ensures state { view self.new ≡ (pushed (view self.old)).0 }
+        ensures answer { result ≡ (pushed self.old).1 }
+        ensures state { self.new ≡ (pushed self.old).0 }
     {
         serializer_write::push(&mut self.state)
     }

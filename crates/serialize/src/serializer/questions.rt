@@ -2,7 +2,6 @@
 ghost use Rattle.std.specs.Prelude.{◌≡◌};
 ghost use Rattle.model.specs.Declining.{set_err as joins};
 ghost use Rattle.model.specs.Reading.{error as flags_of, in_error, successful as is_successful, ran_out_of_room, has_offset_overflow, only_offset_overflow, only_overflow};
-ghost use Rattle.serialize.specs.View.{view};
 
 use super::Serializer;
 use cursor::flags::SerializeErrorFlags;
@@ -10,55 +9,55 @@ use cursor::flags::SerializeErrorFlags;
 impl Serializer {
     // Joins flags to those that stand, and answers all of them.
     pub fn set_err(&mut self, error_type: SerializeErrorFlags) -> SerializeErrorFlags
-        ensures answer { result ≡ (joins error_type (view self.old)).1 }
-        ensures state { view self.new ≡ (joins error_type (view self.old)).0 }
+        ensures answer { result ≡ (joins error_type self.old).1 }
+        ensures state { self.new ≡ (joins error_type self.old).0 }
     {
         self.state.set_err(error_type)
     }
 
     // The flags that stand.
     pub fn error(&self) -> SerializeErrorFlags
-        ensures answer { result ≡ flags_of (view self.now) }
+        ensures answer { result ≡ flags_of self.now }
     {
-        self.state.flags
+        serializer_write::error(&self.state)
     }
 
     // Whether a flag stands.
     pub fn in_error(&self) -> bool
-        ensures answer { result ≡ in_error (view self.now) }
+        ensures answer { result ≡ in_error self.now }
     {
-        self.state.flags.in_error()
+        serializer_write::in_error(&self.state)
     }
 
     // Whether no flag stands.
     pub fn successful(&self) -> bool
-        ensures answer { result ≡ is_successful (view self.now) }
+        ensures answer { result ≡ is_successful self.now }
     {
-        self.state.flags.successful()
+        serializer_write::successful(&self.state)
     }
 
     pub fn ran_out_of_room(&self) -> bool
-        ensures answer { result ≡ ran_out_of_room (view self.now) }
+        ensures answer { result ≡ ran_out_of_room self.now }
     {
-        self.state.flags.ran_out_of_room()
+        serializer_write::ran_out_of_room(&self.state)
     }
 
     pub fn offset_overflow(&self) -> bool
-        ensures answer { result ≡ has_offset_overflow (view self.now) }
+        ensures answer { result ≡ has_offset_overflow self.now }
     {
-        self.state.flags.offset_overflow()
+        serializer_write::offset_overflow(&self.state)
     }
 
     pub fn only_offset_overflow(&self) -> bool
-        ensures answer { result ≡ only_offset_overflow (view self.now) }
+        ensures answer { result ≡ only_offset_overflow self.now }
     {
-        self.state.flags.only_offset_overflow()
+        serializer_write::only_offset_overflow(&self.state)
     }
 
     // Whether exactly one overflow stands.
     pub fn only_overflow(&self) -> bool
-        ensures answer { result ≡ only_overflow (view self.now) }
+        ensures answer { result ≡ only_overflow self.now }
     {
-        self.state.flags.only_overflow()
+        serializer_write::only_overflow(&self.state)
     }
 }

@@ -4,12 +4,11 @@ use Rattle.scalar.specs.BigEndian.{big_endian}
 use Rattle.calls.specs.declared.scalar_value.ScalarValue.{ScalarValue}
 use Rattle.calls.specs.Meaning.{scalar_bytes}
 use Rattle.model.specs.Writing.{embed}
-use Rattle.serialize.specs.View.{view}
 use Rattle.runs.proofs.scalars.embed.Goals as goal
 
 pub returns-in-I16 : goal.returns-in-I16
 returns-in-I16 c =
-    let s = view c.args.s.now in
+    let s = c.args.s.now in
     let x = c.in-I16.x in
     let f : SFits w16 x = search rules in
     let back = to_z-of_z w16 x f in
