@@ -10,6 +10,7 @@ ghost use Rattle.serializer_state.specs.View.{view};
 use super::SerializerState;
 use memory::{hash_of, part_of};
 use objects::{Extent, Which};
+use std::hash::Hasher;
 
 impl SerializerState {
     // The hash of the bytes at an extent and of the real links of an object.
