@@ -1,3 +1,4 @@
+pub mod Cells
 pub mod Walk
 pub mod Place
 pub mod Wiring

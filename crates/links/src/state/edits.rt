@@ -1,10 +1,11 @@
 // What makes lists and changes them. None but `new` allocates, and each takes constant time but `new`, `cut`
 // and `clear_all`, since it moves whole chains or one cell.
-ghost use Rattle.std.specs.Prelude.{◌≡◌, not, ◌&&◌, [], ◌∷◌, ◌++◌, length, take, replicate, IfOk, if◌then◌else◌, ◌==◌, nat_lt, slice_set};
-ghost use Rattle.links.specs.Meaning.{lists, list_at, is_list, used, cells};
+ghost use Rattle.std.specs.Prelude.{◌≡◌, ◌+◌, map, not, ◌&&◌, [], ◌∷◌, ◌++◌, length, take, replicate, IfOk, if◌then◌else◌, ◌==◌, nat_lt, slice_set};
+ghost use Rattle.std.specs.List.{range_with_len};
+ghost use Rattle.links.specs.Meaning.{lists, list_at, is_list, used, cells, no_link};
 
 use super::Links;
-use crate::chains::Chain;
+use crate::chains::{Cell, Chain};
 use link::{Link, LinkWidth, ObjIdx, OffsetWhence};
 use std::alloc::{AllocError, Global};
 
@@ -13,28 +14,15 @@ impl Links {
     pub fn new(heap: Global, list_count: usize, cell_count: usize) -> Result<Links, AllocError>
         ensures answer { IfOk result (λ s. (lists s ≡ replicate list_count []) × (cells s ≡ cell_count)) }
     {
-        let blank = Link {
-            width: LinkWidth::Zero,
-            is_signed: false,
-            whence: OffsetWhence::Head,
-            bias: 0,
-            position: 0,
-            objidx: ObjIdx(0),
-        };
-        let links = vec![in heap; blank; cell_count]?;
+        let cells = row_of_cells(heap, cell_count)?;
         let chains = vec![in heap; Chain::EMPTY; list_count]?;
-        let mut nexts = Vec::with_capacity(heap, cell_count)?;
-        for i in 0..cell_count {
-            nexts.push_reserved(i + 1);
-        }
         let free = Chain {
             first: 0,
             last: cell_count.saturating_sub(1),
             count: cell_count,
         };
         Ok(Links {
-            links,
-            nexts,
+            cells,
             free,
             chains,
         })
@@ -45,8 +33,7 @@ impl Links {
         ensures answer { (lists result ≡ []) × (cells result ≡ 0) }
     {
         Links {
-            links: Vec::new(heap),
-            nexts: Vec::new(heap),
+            cells: Vec::new(heap),
             free: Chain::EMPTY,
             chains: Vec::new(heap),
         }
@@ -58,13 +45,15 @@ impl Links {
         ensures state { lists self.new ≡ (if result then slice_set (lists self.old) list (list_at self.old list ++ link ∷ []) else lists self.old) }
         ensures same { cells self.new ≡ cells self.old }
     {
-        if list >= self.chains.len() || self.free.count == 0 {
+        if self.free.count == 0 {
             return false;
         }
-        let (one, rest) = self.free.split(&self.nexts, 1);
-        let chain = self.chains[list];
-        self.links[one.first] = link;
-        self.chains[list] = chain.join(&mut self.nexts, one);
+        let Some(chain) = self.chains.get_mut(list) else {
+            return false;
+        };
+        let (one, rest) = self.free.split(&self.cells, 1);
+        self.cells[one.first].link = link;
+        *chain = chain.join(&mut self.cells, one);
         self.free = rest;
         true
     }
@@ -76,16 +65,15 @@ impl Links {
         ensures state { lists self.new ≡ slice_set (lists self.old) list (take n (list_at self.old list)) }
         ensures same { cells self.new ≡ cells self.old }
     {
-        if list >= self.chains.len() {
+        let Some(chain) = self.chains.get_mut(list) else {
             return false;
-        }
-        let chain = self.chains[list];
+        };
         if n >= chain.count {
             return true;
         }
-        let (keep, rest) = chain.split(&self.nexts, n);
-        self.free = self.free.join(&mut self.nexts, rest);
-        self.chains[list] = keep;
+        let (keep, rest) = chain.split(&self.cells, n);
+        self.free = self.free.join(&mut self.cells, rest);
+        *chain = keep;
         true
     }
 
@@ -120,8 +108,23 @@ impl Links {
         }
         let front = self.chains[to];
         let back = self.chains[from];
-        self.chains[to] = front.join(&mut self.nexts, back);
+        self.chains[to] = front.join(&mut self.cells, back);
         self.chains[from] = Chain::EMPTY;
         true
     }
+}
+
+// So many cells in one row, each followed by the next; the last is followed by none that there is.
+fn row_of_cells(heap: Global, count: usize) -> Result<Vec<Cell>, AllocError>
+    ensures answer { IfOk result (λ v. v.items ≡ map (λ i. record { link = no_link; next = i + 1 }) (range_with_len 0 count)) }
+{
+    let link = Link {
+        width: LinkWidth::Zero,
+        is_signed: false,
+        whence: OffsetWhence::Head,
+        bias: 0,
+        position: 0,
+        objidx: ObjIdx(0),
+    };
+    (0..count).map(|i| Cell { link, next: i + 1 }).collect(heap)
 }

@@ -1,12 +1,12 @@
 // What links feed to the hash of their object.
 ghost use Rattle.std.specs.Prelude.{◌≡◌, List};
 ghost use Rattle.fnv.specs.Fnv.{hashed_from};
-ghost use Rattle.link.specs.Feed.{link_feed, links_feed, whence_code};
+ghost use Rattle.link.specs.Feed.{link_feed, links_feed};
 ghost use Rattle.links.specs.Meaning.{list_at};
 
 use super::Links;
 use fnv::FnvHasher;
-use link::{Link, OffsetWhence};
+use link::Link;
 
 impl Links {
     // Feeds the links of the list in their order, and nothing where there is no such list. A list of the same
@@ -27,20 +27,10 @@ fn feed_link(hasher: &mut FnvHasher, link: Link)
 {
     let width = link.width.size() as u8;
     let signed = u8::from(link.is_signed);
-    let whence = whence_byte(link.whence);
+    let whence = u8::from(link.whence);
     let number = link.objidx.0 as u64;
     hasher.write(&[width, signed, whence]);
     hasher.write(&link.bias.to_be_bytes());
     hasher.write(&link.position.to_be_bytes());
     hasher.write(&number.to_be_bytes());
-}
-
-fn whence_byte(whence: OffsetWhence) -> u8
-    ensures answer { result ≡ whence_code whence }
-{
-    match whence {
-        OffsetWhence::Head => 0,
-        OffsetWhence::Tail => 1,
-        OffsetWhence::Absolute => 2,
-    }
 }

@@ -5,83 +5,54 @@ ghost use Rattle.std.specs.List.{slice_get};
 ghost use Rattle.links.specs.Meaning.{Same, lists, list_at, used, cells};
 
 use super::Links;
-use link::{Link, same_link};
+use link::Link;
 
 impl Links {
     // How many links the list has, if there is such a list.
     pub fn len(&self, list: usize) -> Option<usize>
         ensures answer { result ≡ option_map length (slice_get (lists self.now) list) }
     {
-        if list < self.chains.len() {
-            Some(self.chains[list].count)
-        } else {
-            None
-        }
+        self.chain(list).map(|chain| chain.count)
     }
 
     // The i-th link of the list, from 0. It takes i steps.
     pub fn get(&self, list: usize, i: usize) -> Option<Link>
         ensures answer { result ≡ slice_get (list_at self.now list) i }
     {
-        if list >= self.chains.len() {
-            return None;
-        }
-        let chain = self.chains[list];
-        if i >= chain.count {
-            return None;
-        }
-        let at = chain.cell(&self.nexts, i);
-        Some(self.links[at])
+        let chain = self.chain(list).filter(|chain| i < chain.count)?;
+        let at = chain.cell(&self.cells, i);
+        Some(self.cells[at].link)
     }
 
     // The last link of the list.
     pub fn last(&self, list: usize) -> Option<Link>
         ensures answer { result ≡ slice_get (list_at self.now list) (length (list_at self.now list) - 1) }
     {
-        if list >= self.chains.len() {
-            return None;
-        }
-        let chain = self.chains[list];
-        if chain.count == 0 {
-            return None;
-        }
-        Some(self.links[chain.last])
+        let chain = self.chain(list).filter(|chain| chain.count > 0)?;
+        Some(self.cells[chain.last].link)
     }
 
     // How many cells hold a link: never more than there are.
+    #[tactic(auto, using(crate::proofs::Reading::used_is), unfolding(crate::specs::Meaning::cells))]
     pub fn used(&self) -> usize
         ensures answer { result ≡ used self.now }
         ensures bound { result ≤ cells self.now }
     {
-        self.nexts.len() - self.free.count
+        self.cells() - self.free.count
     }
 
     // How many cells there are.
+    #[tactic(auto, unfolding(crate::specs::Meaning::cells))]
     pub fn cells(&self) -> usize
         ensures answer { result ≡ cells self.now }
     {
-        self.links.len()
+        self.cells.len()
     }
 
     // Whether both lists exist and have the same links in the same order.
     pub fn same(&self, a: usize, b: usize) -> bool
         ensures answer { Decides result (Same self.now a b) }
     {
-        if a >= self.chains.len() || b >= self.chains.len() {
-            return false;
-        }
-        if self.chains[a].count != self.chains[b].count {
-            return false;
-        }
-        let mut others = self.iter(b);
-        for x in self.iter(a) {
-            let Some(y) = others.next() else {
-                return false;
-            };
-            if !same_link(x, y) {
-                return false;
-            }
-        }
-        true
+        a < self.chains.len() && b < self.chains.len() && self.iter(a).eq(self.iter(b))
     }
 }

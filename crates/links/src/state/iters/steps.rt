@@ -5,6 +5,7 @@ ghost use Rattle.links.specs.Rest.{rest, Step};
 ghost use Rattle.std.specs.Iterator.{at_most};
 
 use super::LinkIter;
+use crate::chains::Chain;
 use crate::state::Links;
 use link::Link;
 
@@ -13,14 +14,7 @@ impl Links {
     pub fn iter(&self, list: usize) -> LinkIter<'_>
         ensures answer { rest result ≡ list_at self.now list }
     {
-        if list >= self.chains.len() {
-            return LinkIter {
-                owner: self,
-                cell: 0,
-                left: 0,
-            };
-        }
-        let chain = self.chains[list];
+        let chain = self.chain(list).unwrap_or(Chain::EMPTY);
         LinkIter {
             owner: self,
             cell: chain.first,
@@ -40,9 +34,9 @@ impl Iterator for LinkIter<'_> {
         if self.left == 0 {
             return None;
         }
-        let link = self.owner.links[self.cell];
-        self.cell = self.owner.nexts[self.cell];
+        let cell = self.owner.cells[self.cell];
+        self.cell = cell.next;
         self.left -= 1;
-        Some(link)
+        Some(cell.link)
     }
 }

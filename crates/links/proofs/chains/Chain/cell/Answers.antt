@@ -1,11 +1,14 @@
-use Rattle.std.proofs.Common.{ℕ, get_or, vec_items, vec_len, sym, ap, ◌∙◌, arith}
-use Rattle.std.proofs.lemmas.List.{get_or_read_under}
+use Rattle.std.proofs.Common.{ℕ, get_or, sym, ap, ◌∙◌, arith}
+use Rattle.links.specs.Cells.{nexts}
+use Rattle.links.proofs.Cells.{nexts_length, next_at}
 use Rattle.links.proofs.Walk.{hop_more}
 use Rattle.links.proofs.chains.Chain.cell.Goals as goal
 
-pub loop-i-preserved : goal.loop-i-preserved
-loop-i-preserved c =
-    let v = c.args.nexts.now in
-    let inside = c.requires.inside c.loop-i._i (omega arith) in
-    get_or_read_under (vec_items v) c.loop-i.at (vec_len v) c.index-at.result.now 0 c.index-at.ensures (omega (arith, inside, c.loop-i.invariant, v.ok.0)) v.ok.0
-    ∙ ap (λ (k : ℕ). get_or (vec_items v) k 0) c.loop-i.invariant ∙ sym (hop_more (vec_items v) c.args.self.first c.loop-i._i)
+pub bounds-cells-at : goal.bounds-cells-at
+bounds-cells-at c = omega (arith, c.loop.invariant, c.requires.inside c.loop.counter (omega arith), nexts_length c.args.cells.now)
+
+pub loop-preserved : goal.loop-preserved
+loop-preserved c =
+    let ns = nexts c.args.cells.now in
+    next_at c.args.cells.now c.loop.at _ (omega (arith, c.loop.invariant, c.requires.inside c.loop.counter (omega arith), nexts_length c.args.cells.now))
+    ∙ ap (λ (k : ℕ). get_or ns k 0) c.loop.invariant ∙ sym (hop_more ns c.args.self.first c.loop.counter)

@@ -1,51 +1,69 @@
-use Rattle.std.proofs.Common.{vec_items, sym, refl, ap, ◌∙◌, arith}
+use Rattle.std.proofs.Common.{ℕ, List, vec_items, refl, ap, ◌∙◌, arith}
+use Rattle.std.specs.Vec.{with_item}
+use Rattle.links.specs.declared.chains.Cell.{Cell}
+use Rattle.links.specs.Walk.{linked}
 use Rattle.links.specs.Meaning.{lists, cells}
-use Rattle.links.proofs.Reading.{free_inside, read_last, counts_fit}
+use Rattle.links.proofs.Cells.{held_set, nexts_kept, lent_nexts, lent_held}
+use Rattle.links.proofs.Reading.{At, free_inside, read_last, counts_fit}
 use Rattle.links.proofs.Append.{refuse_list, refuse_full, accept, free_in, append_wired, append_lists}
 use Rattle.links.proofs.state.Links.append.Goals as goal
-use Rattle.links.proofs.state.Links.append.Goals.{then-list-len-via-then-list-len, then-list-len-via-else-list-len+then-self-eq0}
 
-pub returns-then-list-len : goal.returns-then-list-len
-returns-then-list-len c =
-    record {
-      answer =
-          elim c.then-list-len.branch [
-            | then-list-len-via-then-list-len w ↦ refuse_list c.args.self.now c.args.list (omega arith)
-            | then-list-len-via-else-list-len+then-self-eq0 w ↦ refuse_full c.args.self.now c.args.list (omega arith)
-          ];
-      state = refl;
-      same = refl;
-    }
+pub returns-then-self-eq0-clause-answer : goal.returns-then-self-eq0-clause-answer
+returns-then-self-eq0-clause-answer c = refuse_full c.args.self.now c.args.list (omega arith)
 
-pub split-requires : goal.split-requires
-split-requires c = record { inside = free_inside c.args.self.now; within = omega arith }
+pub returns-in_default-clause-answer : goal.returns-in_default-clause-answer
+returns-in_default-clause-answer c = refuse_list c.args.self.now c.args.list (omega (arith, c.in_default.ensures.item.3))
+
+pub split-requires-clause-inside : goal.split-requires-clause-inside
+split-requires-clause-inside c = rw c.deref.ensures.value (free_inside c.args.self.now)
 
 pub index_mut-requires : goal.index_mut-requires
 index_mut-requires c = omega (arith, free_in c.args.self.now (omega arith), ap (λ t. t.first) c.split.ensures.front)
 
-pub join-requires : goal.join-requires
-join-requires c =
-    let s = c.args.self.now in
-    let x = c.index-chain.result.now in
-    record {
-      inside = read_last s c.args.list x (record { within = omega arith; read = c.index-chain.ensures });
-      fits = omega (arith, counts_fit s c.args.list x (record { within = omega arith; read = c.index-chain.ensures }), ap (λ t. t.count) c.split.ensures.front, s.nexts.small, s.nexts.ok.1);
-    }
+pub join-requires-clause-inside : goal.join-requires-clause-inside
+join-requires-clause-inside c =
+    let at : At c.args.self.now c.args.list c.in-Some.chain.now = record { within = c.in-Some.ensures.variant.0 refl; read = c.in-Some.ensures.value } in
+    λ h. omega (arith, read_last c.args.self.now c.args.list c.in-Some.chain.now at h, c.deref_mut.ensures.len)
 
-pub invariant_of-self : goal.invariant_of-self
-invariant_of-self c =
-    let s = c.args.self.now in
-    let w = append_wired s c.args.list c.index-chain.result.now c.split.result.0 c.split.result.1 c.join.result (vec_items c.join.new.nexts)
-    (record { within = omega arith; read = c.index-chain.ensures }) (omega arith) c.split.ensures.front c.split.ensures.back c.join.ensures.chain c.join.ensures.nexts in
-    record { sized = s.sized ∙ sym c.join.ensures.len; once = w.once; ended = w.ended; filled = w.filled }
+pub join-requires-clause-fits : goal.join-requires-clause-fits
+join-requires-clause-fits c =
+    let at : At c.args.self.now c.args.list c.in-Some.chain.now = record { within = c.in-Some.ensures.variant.0 refl; read = c.in-Some.ensures.value } in
+    omega (arith, counts_fit c.args.self.now c.args.list c.in-Some.chain.now at, ap (λ t. t.count) c.split.ensures.front, c.deref_mut.ensures.len)
 
-pub returns : goal.returns
-unfolding lists cells
-returns c =
+pub invariant_of-self-2 : goal.invariant_of-self-2
+invariant_of-self-2 c =
     let s = c.args.self.now in
-    record {
-      answer = accept s c.args.list (omega arith) (omega arith);
-      state = append_lists s c.args.list c.index-chain.result.now c.split.result.0 c.split.result.1 c.join.result (vec_items c.join.new.nexts)
-          (record { within = omega arith; read = c.index-chain.ensures }) (omega arith) c.split.ensures.front c.split.ensures.back c.join.ensures.chain c.join.ensures.nexts c.args.link;
-      same = c.join.ensures.len;
-    }
+    let x = c.in-Some.chain.now in
+    let one = c.split.result.0 in
+    let at : At s c.args.list x = record { within = c.in-Some.ensures.variant.0 refl; read = c.in-Some.ensures.value } in
+    let put : Cell = record { link = c.args.link; next = c.index_mut.result.now.next } in
+    let v = with_item s.cells one.first put in
+    let ms =
+    lent_nexts v c.deref_mut.result.now c.join.new.cells c.deref_mut.ensures.value c.join.auto.cells (λ ns. linked ns x one) c.join.ensures.nexts
+    ∙ ap (λ (ns : List ℕ). linked ns x one) (nexts_kept (vec_items s.cells) one.first put c.index_mut.result.now (ap (λ (t : Cell). t.next) c.index_mut.ensures.value)) in
+    let w = append_wired s c.args.list x one c.split.result.1 c.join.result _ at (omega arith) c.split.ensures.front (rw c.deref.ensures.value at c.split.ensures.back) c.join.ensures.chain ms in
+    record { once = w.once; ended = w.ended; filled = w.filled }
+
+pub returns-clause-answer : goal.returns-clause-answer
+returns-clause-answer c = accept c.args.self.now c.args.list (c.in-Some.ensures.variant.0 refl) (omega arith)
+
+pub returns-clause-state : goal.returns-clause-state
+unfolding lists
+returns-clause-state c =
+    let s = c.args.self.now in
+    let x = c.in-Some.chain.now in
+    let one = c.split.result.0 in
+    let at : At s c.args.list x = record { within = c.in-Some.ensures.variant.0 refl; read = c.in-Some.ensures.value } in
+    let put : Cell = record { link = c.args.link; next = c.index_mut.result.now.next } in
+    let v = with_item s.cells one.first put in
+    let ms =
+    lent_nexts v c.deref_mut.result.now c.join.new.cells c.deref_mut.ensures.value c.join.auto.cells (λ ns. linked ns x one) c.join.ensures.nexts
+    ∙ ap (λ (ns : List ℕ). linked ns x one) (nexts_kept (vec_items s.cells) one.first put c.index_mut.result.now (ap (λ (t : Cell). t.next) c.index_mut.ensures.value)) in
+    let ls =
+    lent_held v c.deref_mut.result.now c.join.new.cells c.deref_mut.ensures.value c.join.auto.cells c.join.ensures.held
+    ∙ held_set (vec_items s.cells) one.first put in
+    append_lists s c.args.list x one c.split.result.1 c.join.result _ at (omega arith) c.split.ensures.front (rw c.deref.ensures.value at c.split.ensures.back) c.join.ensures.chain ms c.args.link _ ls
+
+pub returns-clause-same : goal.returns-clause-same
+unfolding cells
+returns-clause-same c = refl

@@ -1,6 +1,8 @@
-use Rattle.std.proofs.Common.{vec_items, sym, refl, ◌∙◌, arith}
+use Rattle.std.proofs.Common.{refl, arith}
+use Rattle.links.specs.Walk.{linked}
 use Rattle.links.specs.Meaning.{lists, cells}
-use Rattle.links.proofs.Reading.{read_last}
+use Rattle.links.proofs.Cells.{lent_nexts, lent_held}
+use Rattle.links.proofs.Reading.{At, read_last}
 use Rattle.links.proofs.AppendAll.{not_first, not_second, not_two, two, all_fits, all_wired, all_lists}
 use Rattle.links.proofs.state.Links.append_all.Goals as goal
 use Rattle.links.proofs.state.Links.append_all.Goals.{then-to-len-via-then-to-len, then-to-len-via-else-to-len+then-from-len, then-to-len-via-else-to-len+else-from-len+then-to-from}
@@ -21,30 +23,36 @@ returns-then-to-len c =
 pub join-requires : goal.join-requires
 join-requires c =
     let s = c.args.self.now in
+    let at_to : At s c.args.to c.index-front.result.now = record { within = omega arith; read = c.index-front.ensures } in
+    let at_from : At s c.args.from c.index-back.result.now = record { within = omega arith; read = c.index-back.ensures } in
     record {
-      inside = read_last s c.args.to c.index-front.result.now (record { within = omega arith; read = c.index-front.ensures });
-      fits = omega (
-        arith,
-        all_fits s c.args.to c.args.from c.index-front.result.now c.index-back.result.now _ _ (record { within = omega arith; read = c.index-front.ensures }) (record { within = omega arith; read = c.index-back.ensures }) (omega arith) refl refl,
-        s.nexts.small,
-        s.nexts.ok.1,
-      );
+      inside = λ h. omega (arith, read_last s c.args.to c.index-front.result.now at_to h, c.deref_mut.ensures.len);
+      fits = omega (arith, all_fits s c.args.to c.args.from c.index-front.result.now c.index-back.result.now _ _ at_to at_from (omega arith) refl refl, c.deref_mut.ensures.len);
     }
 
 pub invariant_of-self : goal.invariant_of-self
 invariant_of-self c =
     let s = c.args.self.now in
-    let w = all_wired s c.args.to c.args.from c.index-front.result.now c.index-back.result.now c.join.result (vec_items c.join.new.nexts)
-    (record { within = omega arith; read = c.index-front.ensures }) (record { within = omega arith; read = c.index-back.ensures }) (omega arith) c.join.ensures.chain c.join.ensures.nexts in
-    record { sized = s.sized ∙ sym c.join.ensures.len; once = w.once; ended = w.ended; filled = w.filled }
+    let front = c.index-front.result.now in
+    let back = c.index-back.result.now in
+    let at_to : At s c.args.to front = record { within = omega arith; read = c.index-front.ensures } in
+    let at_from : At s c.args.from back = record { within = omega arith; read = c.index-back.ensures } in
+    let ms = lent_nexts s.cells c.deref_mut.result.now c.join.new.cells c.deref_mut.ensures.value c.join.auto.cells (λ ns. linked ns front back) c.join.ensures.nexts in
+    let w = all_wired s c.args.to c.args.from front back c.join.result _ at_to at_from (omega arith) c.join.ensures.chain ms in
+    record { once = w.once; ended = w.ended; filled = w.filled }
 
 pub returns : goal.returns
 unfolding lists cells
 returns c =
     let s = c.args.self.now in
+    let front = c.index-front.result.now in
+    let back = c.index-back.result.now in
+    let at_to : At s c.args.to front = record { within = omega arith; read = c.index-front.ensures } in
+    let at_from : At s c.args.from back = record { within = omega arith; read = c.index-back.ensures } in
+    let ms = lent_nexts s.cells c.deref_mut.result.now c.join.new.cells c.deref_mut.ensures.value c.join.auto.cells (λ ns. linked ns front back) c.join.ensures.nexts in
+    let ls = lent_held s.cells c.deref_mut.result.now c.join.new.cells c.deref_mut.ensures.value c.join.auto.cells c.join.ensures.held in
     record {
       answer = two s c.args.to c.args.from (omega arith) (omega arith) (omega arith);
-      state = all_lists s c.args.to c.args.from c.index-front.result.now c.index-back.result.now c.join.result (vec_items c.join.new.nexts)
-          (record { within = omega arith; read = c.index-front.ensures }) (record { within = omega arith; read = c.index-back.ensures }) (omega arith) c.join.ensures.chain c.join.ensures.nexts;
-      same = c.join.ensures.len;
+      state = all_lists s c.args.to c.args.from front back c.join.result _ at_to at_from (omega arith) c.join.ensures.chain ms _ ls;
+      same = refl;
     }

@@ -1,52 +1,66 @@
-use Rattle.std.proofs.Common.{vec_items, sym, refl, ap, ◌∙◌, arith}
-use Rattle.links.specs.Meaning.{lists, cells}
-use Rattle.links.proofs.Reading.{no_list, a_list, read_inside, free_last, counts_fit}
+use Rattle.std.proofs.Common.{refl, ap, ◌∙◌, arith}
+use Rattle.links.specs.Walk.{linked}
+use Rattle.links.specs.Meaning.{lists, cells, meaning}
+use Rattle.links.proofs.Cells.{lent_nexts, lent_held}
+use Rattle.links.proofs.Reading.{links_of, nexts_of, At, put_back, no_list, a_list, read_inside, free_last, counts_fit}
 use Rattle.links.proofs.Cut.{cut_no_list, cut_none, cut_wired, cut_lists}
 use Rattle.links.proofs.state.Links.cut.Goals as goal
 
-pub returns-then-list-len : goal.returns-then-list-len
-returns-then-list-len c =
-    let s = c.args.self.now in
-    record { answer = no_list s c.args.list (omega arith); state = cut_no_list s c.args.list _ (omega arith); same = refl }
+pub returns-in_default-clause-answer : goal.returns-in_default-clause-answer
+returns-in_default-clause-answer c = no_list c.args.self.now c.args.list (omega (arith, c.in_default.ensures.item.3))
 
-pub returns-then-n-chain : goal.returns-then-n-chain
-returns-then-n-chain c =
-    let s = c.args.self.now in
-    record {
-      answer = a_list s c.args.list (omega arith);
-      state = cut_none s c.args.list c.args.n c.index-chain.result.now (record { within = omega arith; read = c.index-chain.ensures }) (omega arith);
-      same = refl;
-    }
+pub returns-in_default-clause-state : goal.returns-in_default-clause-state
+unfolding lists
+returns-in_default-clause-state c = cut_no_list c.args.self.now c.args.list _ (omega (arith, c.in_default.ensures.item.3))
 
-pub split-requires : goal.split-requires
-split-requires c =
-    record {
-      inside = read_inside c.args.self.now c.args.list c.index-chain.result.now (record { within = omega arith; read = c.index-chain.ensures });
-      within = omega arith;
-    }
+pub returns-then-n-chain-clause-answer : goal.returns-then-n-chain-clause-answer
+returns-then-n-chain-clause-answer c = a_list c.args.self.now c.args.list (c.in-Some.ensures.variant.0 refl)
 
-pub join-self-requires : goal.join-self-requires
-join-self-requires c =
+pub returns-then-n-chain-clause-state : goal.returns-then-n-chain-clause-state
+unfolding lists
+returns-then-n-chain-clause-state c =
     let s = c.args.self.now in
-    record {
-      inside = free_last s;
-      fits = omega (arith, counts_fit s c.args.list c.index-chain.result.now (record { within = omega arith; read = c.index-chain.ensures }), ap (λ t. t.count) c.split.ensures.back, s.nexts.small, s.nexts.ok.1);
-    }
+    let x = c.in-Some.chain.now in
+    let at : At s c.args.list x = record { within = c.in-Some.ensures.variant.0 refl; read = c.in-Some.ensures.value } in
+    ap (meaning (links_of s) (nexts_of s)) (put_back s c.args.list x at) ∙ cut_none s c.args.list c.args.n x at c.if-n-chain.true
 
-pub invariant_of-self : goal.invariant_of-self
-invariant_of-self c =
-    let s = c.args.self.now in
-    let w = cut_wired s c.args.list c.args.n c.index-chain.result.now c.split.result.0 c.split.result.1 c.join-self.result (vec_items c.join-self.new.nexts)
-    (record { within = omega arith; read = c.index-chain.ensures }) (omega arith) c.split.ensures.front c.split.ensures.back c.join-self.ensures.chain c.join-self.ensures.nexts in
-    record { sized = s.sized ∙ sym c.join-self.ensures.len; once = w.once; ended = w.ended; filled = w.filled }
+pub split-requires-clause-inside : goal.split-requires-clause-inside
+split-requires-clause-inside c =
+    let at : At c.args.self.now c.args.list c.in-Some.chain.now = record { within = c.in-Some.ensures.variant.0 refl; read = c.in-Some.ensures.value } in
+    rw c.deref.ensures.value (read_inside c.args.self.now c.args.list c.in-Some.chain.now at)
 
-pub returns : goal.returns
-unfolding lists cells
-returns c =
+pub join-self-requires-clause-inside : goal.join-self-requires-clause-inside
+join-self-requires-clause-inside c = λ h. omega (arith, free_last c.args.self.now h, c.deref_mut.ensures.len)
+
+pub join-self-requires-clause-fits : goal.join-self-requires-clause-fits
+join-self-requires-clause-fits c =
+    let at : At c.args.self.now c.args.list c.in-Some.chain.now = record { within = c.in-Some.ensures.variant.0 refl; read = c.in-Some.ensures.value } in
+    omega (arith, counts_fit c.args.self.now c.args.list c.in-Some.chain.now at, ap (λ t. t.count) c.split.ensures.back, c.deref_mut.ensures.len)
+
+pub invariant_of-self-2 : goal.invariant_of-self-2
+invariant_of-self-2 c =
     let s = c.args.self.now in
-    record {
-      answer = a_list s c.args.list (omega arith);
-      state = cut_lists s c.args.list c.args.n c.index-chain.result.now c.split.result.0 c.split.result.1 c.join-self.result (vec_items c.join-self.new.nexts)
-          (record { within = omega arith; read = c.index-chain.ensures }) (omega arith) c.split.ensures.front c.split.ensures.back c.join-self.ensures.chain c.join-self.ensures.nexts;
-      same = c.join-self.ensures.len;
-    }
+    let x = c.in-Some.chain.now in
+    let at : At s c.args.list x = record { within = c.in-Some.ensures.variant.0 refl; read = c.in-Some.ensures.value } in
+    let ms = lent_nexts s.cells c.deref_mut.result.now c.join-self.new.cells c.deref_mut.ensures.value c.join-self.auto.cells (λ ns. linked ns s.free c.split.result.1) c.join-self.ensures.nexts in
+    let w = cut_wired s c.args.list c.args.n x c.split.result.0 c.split.result.1 c.join-self.result _ at (omega arith)
+    (rw c.deref.ensures.value at c.split.ensures.front) (rw c.deref.ensures.value at c.split.ensures.back) c.join-self.ensures.chain ms in
+    record { once = w.once; ended = w.ended; filled = w.filled }
+
+pub returns-clause-answer : goal.returns-clause-answer
+returns-clause-answer c = a_list c.args.self.now c.args.list (c.in-Some.ensures.variant.0 refl)
+
+pub returns-clause-state : goal.returns-clause-state
+unfolding lists
+returns-clause-state c =
+    let s = c.args.self.now in
+    let x = c.in-Some.chain.now in
+    let at : At s c.args.list x = record { within = c.in-Some.ensures.variant.0 refl; read = c.in-Some.ensures.value } in
+    let ms = lent_nexts s.cells c.deref_mut.result.now c.join-self.new.cells c.deref_mut.ensures.value c.join-self.auto.cells (λ ns. linked ns s.free c.split.result.1) c.join-self.ensures.nexts in
+    let ls = lent_held s.cells c.deref_mut.result.now c.join-self.new.cells c.deref_mut.ensures.value c.join-self.auto.cells c.join-self.ensures.held in
+    cut_lists s c.args.list c.args.n x c.split.result.0 c.split.result.1 c.join-self.result _ at (omega arith)
+    (rw c.deref.ensures.value at c.split.ensures.front) (rw c.deref.ensures.value at c.split.ensures.back) c.join-self.ensures.chain ms _ ls
+
+pub returns-clause-same : goal.returns-clause-same
+unfolding cells
+returns-clause-same c = refl

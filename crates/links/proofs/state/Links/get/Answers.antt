@@ -1,29 +1,31 @@
-use Rattle.std.proofs.Common.{◌≡◌, ℕ, get_or, subst, arith}
-use Rattle.links.proofs.Reading.{links_of, get_none, get_past, get_some, read_inside}
+use Rattle.std.proofs.Common.{rules, ◌≡◌, ◌≤◌, ◌<◌, Some, sym, ◌∙◌}
+use Rattle.std.proofs.lemmas.Grind.{common_steps}
+use Rattle.links.specs.declared.chains.Chain.{Chain}
+use Rattle.links.proofs.Reading.{found, read_inside, step_within, get_short, get_some}
 use Rattle.links.proofs.state.Links.get.Goals as goal
 
-pub returns-then-list-len : goal.returns-then-list-len
-returns-then-list-len c = record { answer = get_none c.args.self.now c.args.list c.args.i (omega arith) }
-
-pub returns-then-i-chain : goal.returns-then-i-chain
-returns-then-i-chain c =
-    record { answer = get_past c.args.self.now c.args.list c.index-chain.result.now (record { within = omega arith; read = c.index-chain.ensures }) c.args.i (omega arith) }
+pub returns-in_err-chain : goal.returns-in_err-chain
+returns-in_err-chain c =
+    let short : (x : Chain) → c.chain.result ≡ Some x → x.count ≤ c.args.i = λ x e. search (rules, common_steps) in
+    record { answer = c.from_residual.ensures ∙ get_short c.args.self.now c.args.list c.args.i (λ x e. short x (c.chain.ensures.answer ∙ e)) }
 
 pub cell-at-requires : goal.cell-at-requires
 cell-at-requires c =
-    record {
-      inside = read_inside c.args.self.now c.args.list c.index-chain.result.now (record { within = omega arith; read = c.index-chain.ensures });
-      within = omega arith;
-    }
+    let s = c.args.self.now in
+    let x = c.in_ok-chain.chain in
+    let long : (c.chain.result ≡ Some x) × (c.args.i < x.count) = search (rules, common_steps) in
+    record { inside = rw c.deref.ensures.value (read_inside s c.args.list x (found s c.args.list x (sym c.chain.ensures.answer ∙ long.0))); within = long.1 }
 
 pub index-requires : goal.index-requires
 index-requires c =
     let s = c.args.self.now in
-    omega (arith, c.cell-at.ensures.answer, s.sized, s.nexts.ok.0, read_inside s c.args.list c.index-chain.result.now (record { within = omega arith; read = c.index-chain.ensures }) c.args.i (omega arith))
+    let x = c.in_ok-chain.chain in
+    let long : (c.chain.result ≡ Some x) × (c.args.i < x.count) = search (rules, common_steps) in
+    step_within s c.args.list x (found s c.args.list x (sym c.chain.ensures.answer ∙ long.0)) c.args.i c.cell-at.result long.1 (rw c.deref.ensures.value at c.cell-at.ensures.answer)
 
 pub returns : goal.returns
 returns c =
     let s = c.args.self.now in
-    let v = c.index.result.now in
-    let there = subst (λ (k : ℕ). v ≡ get_or (links_of s) k v) c.cell-at.ensures.answer c.index.ensures in
-    record { answer = get_some s c.args.list c.index-chain.result.now (record { within = omega arith; read = c.index-chain.ensures }) c.args.i v (omega arith) there }
+    let x = c.in_ok-chain.chain in
+    let long : (c.chain.result ≡ Some x) × (c.args.i < x.count) = search (rules, common_steps) in
+    record { answer = get_some s c.args.list x (found s c.args.list x (sym c.chain.ensures.answer ∙ long.0)) c.args.i c.cell-at.result c.index.result.now long.1 (rw c.deref.ensures.value at c.cell-at.ensures.answer) c.index.ensures }

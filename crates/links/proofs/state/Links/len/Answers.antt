@@ -1,9 +1,10 @@
-use Rattle.std.proofs.Common.{arith}
-use Rattle.links.proofs.Reading.{len_some, len_none}
+use Rattle.std.proofs.Common.{rules, ◌≡◌, ap, ◌∙◌}
+use Rattle.std.specs.Option.{option_map}
+use Rattle.links.specs.declared.chains.Chain.{Chain}
+use Rattle.links.proofs.Reading.{len_is}
 use Rattle.links.proofs.state.Links.len.Goals as goal
 
-pub returns-then-list-len : goal.returns-then-list-len
-returns-then-list-len c = record { answer = len_some c.args.self.now c.args.list c.index.result.now (record { within = omega arith; read = c.index.ensures }) }
-
-pub returns-else-list-len : goal.returns-else-list-len
-returns-else-list-len c = record { answer = len_none c.args.self.now c.args.list (omega arith) }
+pub returns : goal.returns
+returns c =
+    let counted : c.map.result ≡ option_map (λ (x : Chain). x.count) c.chain.result = search rules in
+    record { answer = counted ∙ ap (option_map (λ (x : Chain). x.count)) c.chain.ensures.answer ∙ len_is c.args.self.now c.args.list }

@@ -1,55 +1,25 @@
-use Rattle.std.proofs.Common.{sym, ap, ◌∙◌, arith}
-use Rattle.std.proofs.lemmas.Bool.{false≢true}
-use Rattle.links.specs.Rest.{rest}
-use Rattle.links.proofs.Reading.{list_length}
-use Rattle.links.proofs.Compare.{level_start, level_more, level_apart, level_short, level_end, not_first, not_second, not_as_long, not_same, same}
+use Rattle.std.proofs.Common.{rules, ◌≡◌, ◌<◌, Decides, vec_len, sym, arith}
+use Rattle.std.proofs.lemmas.Grind.{common_steps}
+use Rattle.links.specs.Meaning.{Same, list_at}
+use Rattle.links.proofs.Compare.{compared, not_first, not_second, both}
 use Rattle.links.proofs.state.Links.same.Goals as goal
-use Rattle.links.proofs.state.Links.same.Goals.{then-a-len-via-then-a-len, then-a-len-via-else-a-len+then-b-len}
+use Rattle.links.proofs.state.Links.same.Goals.{then-a-len, else-a-len}
 
-pub returns-then-a-len : goal.returns-then-a-len
-returns-then-a-len c =
-    record {
-      answer =
-          elim c.then-a-len.branch [
-            | then-a-len-via-then-a-len w ↦ not_first c.args.self.now c.args.a c.args.b (omega arith)
-            | then-a-len-via-else-a-len+then-b-len w ↦ not_second c.args.self.now c.args.a c.args.b (omega arith)
-          ];
-    }
-
-pub returns-then-index : goal.returns-then-index
-returns-then-index c =
-    record {
-      answer =
-          not_as_long c.args.self.now c.args.a c.args.b c.index.result.now c.index-2.result.now (record { within = omega arith; read = c.index.ensures }) (record { within = omega arith; read = c.index-2.ensures })
-          c.if-index.true;
-    }
-
-pub loop-x-init : goal.loop-x-init
-loop-x-init c =
+pub returns-then-b-len : goal.returns-then-b-len
+returns-then-b-len c =
     let s = c.args.self.now in
-    level_start _ _ _ _
-    (list_length s c.args.a c.index.result.now (record { within = omega arith; read = c.index.ensures }) ∙ c.if-index.false
-    ∙ sym (list_length s c.args.b c.index-2.result.now (record { within = omega arith; read = c.index-2.ensures })))
-    (ap rest c.into_iter-x-iterator.ensures.into_iter_gives ∙ c.iter-x-items.ensures.answer) c.iter-others.ensures.answer
+    let are : (c.args.a < vec_len s.chains) × (c.args.b < vec_len s.chains) =
+    elim c.if-a-len.branch [ then-a-len w ↦ search (rules, common_steps) | else-a-len w ↦ search (rules, common_steps) ] in
+    let same : Decides c.eq.result (list_at s c.args.a ≡ list_at s c.args.b) =
+    rw (sym c.iter.ensures.answer, sym c.iter-then-b-len.ensures.answer) (compared c.iter.result c.iter-then-b-len.result c.eq.result c.eq.ensures.ran) in
+    record { answer = both s c.args.a c.args.b c.eq.result are.0 are.1 same }
 
-pub returns-in_default : goal.returns-in_default
-returns-in_default c =
-    record {
-      answer = not_same c.args.self.now c.args.a c.args.b (λ _. level_short _ _ c.in-Some.x c.loop-x.invariant c.in-Some.ensures.steps c.in_default.ensures.steps.0);
-    }
-
-pub returns-then-not-same_link : goal.returns-then-not-same_link
-returns-then-not-same_link c =
-    record {
-      answer =
-          not_same c.args.self.now c.args.a c.args.b
-          (level_apart _ _ c.in-Some.x c.in-Some-next.y c.loop-x.invariant c.in-Some.ensures.steps c.in-Some-next.ensures.steps (λ e. false≢true (sym c.if-not-same_link.true ∙ c.same_link.ensures.1 e)));
-    }
-
-pub loop-x-preserved : goal.loop-x-preserved
-loop-x-preserved c =
-    level_more _ _ c.in-Some.x c.in-Some-next.y c.loop-x.invariant c.in-Some.ensures.steps c.in-Some-next.ensures.steps (c.same_link.ensures.0 c.if-not-same_link.false)
-
-pub returns : goal.returns
-returns c =
-    record { answer = same c.args.self.now c.args.a c.args.b (omega arith) (omega arith) (level_end _ _ c.loop-x.invariant c.in-None.ensures.steps.0) }
+pub returns-else-b-len : goal.returns-else-b-len
+returns-else-b-len c =
+    let s = c.args.self.now in
+    let no : Decides c.if-a-len.value (Same s c.args.a c.args.b) =
+    elim c.if-a-len.branch [
+      | then-a-len w ↦ rw c.if-b-len.false (not_second s c.args.a c.args.b (search (rules, common_steps)))
+      | else-a-len w ↦ rw c.if-b-len.false (not_first s c.args.a c.args.b (omega arith))
+    ] in
+    record { answer = no }

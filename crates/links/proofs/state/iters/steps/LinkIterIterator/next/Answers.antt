@@ -11,20 +11,17 @@ returns-then-self-eq0 c =
     let e = none_left w.owner.now w.cell w.left c.if-self-eq0.true in
     record { steps = (e, e); goes = firm (tt) (λ h. search rules) }
 
-pub index-link-requires : goal.index-link-requires
-index-link-requires c = omega (arith, c.args.self.now.inside 0 (omega arith), c.args.self.now.owner.now.sized)
-
-pub index-requires : goal.index-requires
-index-requires c = c.args.self.now.inside 0 (omega arith)
+pub index-cell-requires : goal.index-cell-requires
+index-cell-requires c = c.args.self.now.inside 0 (omega arith)
 
 pub invariant_of-self : goal.invariant_of-self
 invariant_of-self c =
     let w = c.args.self.now in
-    record { inside = step_inside w.owner.now w.cell w.left c.index.result.now (omega arith) w.inside c.index.ensures }
+    record { inside = step_inside w.owner.now w.cell w.left c.index-cell.result.now (omega arith) w.inside c.index-cell.ensures }
 
 pub returns : goal.returns
 unfolding rest
 returns c =
     let w = c.args.self.now in
-    let e = step_is w.owner.now w.cell w.left c.index.result.now c.index-link.result.now (omega arith) (w.inside 0 (omega arith)) c.index-link.ensures c.index.ensures in
+    let e = step_is w.owner.now w.cell w.left c.index-cell.result.now (omega arith) (w.inside 0 (omega arith)) c.index-cell.ensures in
     record { steps = e; goes = firm ((tt, tt, omega (arith, ap length e))) (λ h. search rules) }
