@@ -87,29 +87,23 @@ fn step(rt: &HostRuntime, links: &mut Links, call: Call) -> io::Result<()> {
         Call::AppendAll(to, from) => links.append_all(to, from),
         Call::Same(a, b) => links.same(a, b),
     };
-    let used = links.used();
-    let cells = links.cells();
-    println!(rt; "{answer}, {used} of {cells}")
+    println!(rt; "{answer}, {} of {}", links.used(), links.cells())
 }
 
 // The length of a list, its second and last link, and all of them, by the objects that they lead to.
 fn show(rt: &HostRuntime, links: &Links, list: usize) -> io::Result<()> {
     let len = links.len(list);
-    let second = number(links.get(list, 1));
-    let last = number(links.last(list));
+    let second = links.get(list, 1).map(number);
+    let last = links.last(list).map(number);
     print!(rt; "list {list}: len {len:?} second {second:?} last {last:?}:")?;
     for link in links.iter(list) {
-        let number = link.objidx.0;
-        print!(rt; " {number}")?;
+        print!(rt; " {}", link.objidx)?;
     }
     println!(rt; ".")
 }
 
-fn number(link: Option<Link>) -> Option<usize> {
-    match link {
-        Some(link) => Some(link.objidx.0),
-        None => None,
-    }
+fn number(link: Link) -> usize {
+    link.objidx.0
 }
 
 // Lists of one link are the same if every field is: the first pair alone.
@@ -140,8 +134,7 @@ fn fields(rt: &HostRuntime) -> io::Result<()> {
         let mut links = Links::new(rt.alloc(), 2, 2)?;
         let _ = links.append(0, base);
         let _ = links.append(1, other);
-        let same = links.same(0, 1);
-        println!(rt; "same: {same}")?;
+        println!(rt; "same: {}", links.same(0, 1))?;
     }
     Ok(())
 }
@@ -163,8 +156,7 @@ fn hashes(rt: &HostRuntime) -> io::Result<()> {
     for list in 0..4 {
         let mut hasher = FnvHasher::new();
         links.feed(list, &mut hasher);
-        let hash = hasher.finish();
-        println!(rt; "hash of list {list}: {hash:016x}")?;
+        println!(rt; "hash of list {list}: {:016x}", hasher.finish())?;
     }
     Ok(())
 }
