@@ -2,8 +2,9 @@
 // at most so many. Its owner chooses an implementation; code above it knows it by its meaning alone.
 #![tactic(auto)]
 
-ghost use Rattle.std.specs.Prelude.{◌≡◌};
-ghost use Rattle.register.specs.Match.{LeastMatch};
+ghost use Rattle.std.specs.Prelude.{◌≡◌, ◌<◌};
+ghost use Rattle.link.specs.declared.ObjIdx.{ObjIdx};
+ghost use Rattle.register.specs.Match.{LeastMatch, LeastWhere};
 ghost use Rattle.register.specs.Pairs.{Pairs, fits, entered, struck, Next, Counted};
 
 use link::ObjIdx;
@@ -34,20 +35,39 @@ pub trait Register {
     ghost counted: { (s : Self) → Counted (holds s) };
 }
 
-// The least number held under the hash whose entry in the table is the key, or none. A held number past the
-// table's end has no entry, and those after it have none either.
-pub fn least_match<R: Register>(register: &R, hash: u64, table: &[u32], key: u32) -> Option<ObjIdx>
-    ensures answer { LeastMatch (R.Register.holds register.now) hash table.now key result }
+// The least number below `end` that is held under the hash and passes the test, or none. The numbers held are tried
+// in order, up to the first that passes or is not below `end`, and the test is called at no other.
+pub fn least_where<R: Register, F: Fn(ObjIdx) -> bool>(
+    register: &R,
+    hash: u64,
+    end: ObjIdx,
+    test: F,
+) -> Option<ObjIdx>
+    requires { (m : ObjIdx) → m.0 < end.0 → F.pre test m }
+    ensures answer { LeastWhere (R.Register.holds register.now) hash end.0 (F.post test) result }
 {
     let mut from = ObjIdx(0);
     while let Some(number) = register.next(hash, from) {
-        if number.0 >= table.len() {
+        if number >= end {
             return None;
         }
-        if table[number.0] == key {
+        if test(number) {
             return Some(number);
         }
         from = ObjIdx(number.0 + 1);
     }
     None
+}
+
+// The least number held under the hash whose entry in the table is the key, or none. A held number past the
+// table's end has no entry, and those after it have none either.
+pub fn least_match<R: Register>(register: &R, hash: u64, table: &[u32], key: u32) -> Option<ObjIdx>
+    ensures answer { LeastMatch (R.Register.holds register.now) hash table.now key result }
+{
+    least_where(
+        register,
+        hash,
+        ObjIdx(table.len()),
+        |number| table[number.0] == key,
+    )
 }
