@@ -1,9 +1,12 @@
 -- The least number that is entered and whose object is like the one that is closed. Used by the search for it.
 use Rattle.std.proofs.Common.{◌≡◌, ℕ, suc, ◌<◌, Bool, true, false, cond, ◌&&◌, ◌≢◌, List, [], ◌∷◌, length, Some, None, Option, sym, refl, ap, ◌∙◌, inl, inr, arith}
-use Rattle.std.proofs.lemmas.Bool.{cases_eq, eq-eqb, ne_eqb, and_left}
+use Rattle.std.proofs.lemmas.Bool.{cases_eq, cases_Bool, eq-eqb, ne_eqb, and_from, and_left, and_right}
+use Rattle.std.specs.Option.{option_map}
 use Rattle.link.specs.declared.Link.{Link}
+use Rattle.link.specs.declared.ObjIdx.{ObjIdx}
 use Rattle.register.specs.Pairs.{Pairs}
-use Rattle.model.specs.State.{Object, numbered}
+use Rattle.register.specs.Match.{LeastWhere}
+use Rattle.model.specs.State.{Object, index, numbered}
 use Rattle.model.specs.Closing.{matches, twin, or_else}
 use Rattle.serializer_close.specs.Twins.{like}
 
@@ -31,8 +34,17 @@ module _ (m : List ℕ) (r : Pairs) (h : ℕ) (bs : List ℕ) (ls : List Link) w
     | inr q ↦ ap (λ (o : Option ℕ). or_else o (cond (matches m r h bs ls (length ps) p) (Some (length ps)) None)) (twin_some ps k (omega arith) (sym (hit_there p ps k q) ∙ e) (λ j g. sym (hit_there p ps j (λ w. omega arith)) ∙ f j g))
   ]
 
-  pub unheld : (ps : List Object) (k : ℕ) → r.has h k ≡ false → hit ps k ≡ false
-  unheld ps k e = and_left (r.has h k) (like m bs ls (numbered ps k)) e
+  -- a number that is not like, if it is held
+  miss : (ps : List Object) (k : ℕ) → (r.has h k ≡ true → false ≡ like m bs ls (numbered ps k)) → hit ps k ≡ false
+  miss ps k f = elim (cases_Bool (r.has h k)) [
+    | inl e ↦ and_right (r.has h k) _ (sym (f e))
+    | inr e ↦ and_left (r.has h k) _ e
+  ]
+
+  -- what a search by likeness finds
+  pub twin_is : (ps : List Object) (o : Option ObjIdx) → LeastWhere r h (length ps) (λ i b. b ≡ like m bs ls (numbered ps i.0)) o → o ≡ option_map index (twin m r h bs ls ps)
+  twin_is ps None l = ap (option_map index) (sym (twin_none ps (λ k lt. miss ps k (l.others (record { 0 = k }) lt tt))))
+  twin_is ps (Some i) l = let q = l.passes in ap (option_map index) (sym (twin_some ps i.0 q.0 (and_from _ _ q.1 (sym q.2)) (λ j lt. miss ps j (l.others (record { 0 = j }) (omega (arith, q.0, lt)) lt))))
 
   -- the least such number is that of a packed object
   pub twin_within : (ps : List Object) (k : ℕ) → twin m r h bs ls ps ≡ Some k → k < length ps

@@ -13,7 +13,7 @@ ghost use Rattle.serializer_close.specs.Twins.{like_numbered};
 use link::ObjIdx;
 use memory::{part_of, same_parts};
 use objects::{Extent, Which};
-use register::Register;
+use register::{Register, least_where};
 use serializer_state::SerializerState;
 
 // Whether a packed object has the bytes at an extent, and the real links of the innermost object.
@@ -49,15 +49,6 @@ pub(crate) fn find_twin<R: Register>(
     requires opened { nothing_open (view s.now) ≡ false }
     ensures answer { result ≡ option_map index (least_twin (view s.now).memory (R.Register.holds register.now) hash (part (view s.now).memory at.head at.tail) (real_of (first (view s.now).opened)) (view s.now).packed) }
 {
-    let mut from = ObjIdx(0);
-    while let Some(number) = register.next(hash, from) {
-        if number.0 >= s.objects.packed_count() {
-            return None;
-        }
-        if like(s, number, at) {
-            return Some(number);
-        }
-        from = ObjIdx(number.0 + 1);
-    }
-    None
+    let end = ObjIdx(s.objects.packed_count());
+    least_where(register, hash, end, |number| like(s, number, at))
 }
