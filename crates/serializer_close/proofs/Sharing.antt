@@ -4,10 +4,12 @@ use Rattle.std.specs.Option.{option_map}
 use Rattle.std.proofs.lemmas.Bool.{cases_eq, eq-eqb, ne_eqb, and_parts, and_from, false≢true}
 use Rattle.link.specs.declared.ObjIdx.{ObjIdx}
 use Rattle.model.specs.State.{State, Object, index, numbered}
+use Rattle.model.specs.Closing.{same_links}
 use Rattle.model.specs.Declining.{nothing_open}
+use Rattle.model.specs.Reading.{real_of}
 use Rattle.objects.specs.declared.extents.Outline.{Outline}
 use Rattle.objects.specs.Contents.{Contents}
-use Rattle.objects.specs.Change.{first, behind, shares, outlined}
+use Rattle.objects.specs.Change.{alike, first, behind, shares, outlined}
 use Rattle.serializer_state.specs.Extents.{within, lying}
 use Rattle.serializer_state.proofs.Lend.{lying_lend}
 
@@ -15,6 +17,14 @@ pub one_open : (s : State) → nothing_open s ≡ false → is_some (first s.ope
 one_open s = go s.opened
   where
     go : (os : List Object) → elim os [ [] ↦ true | ◌∷◌ o os' ↦ false ] ≡ false → is_some (first os) ≡ true
+    go [] e = absurd (false≢true (sym e))
+    go (o ∷ os) e = refl
+
+-- with an object open, the links are compared with its
+pub alike_open : (p : Object) (s : State) → nothing_open s ≡ false → alike (Some p) (first s.opened) ≡ same_links p.real (real_of (first s.opened))
+alike_open p s = go s.opened
+  where
+    go : (os : List Object) → elim os [ [] ↦ true | ◌∷◌ o os' ↦ false ] ≡ false → alike (Some p) (first os) ≡ same_links p.real (real_of (first os))
     go [] e = absurd (false≢true (sym e))
     go (o ∷ os) e = refl
 

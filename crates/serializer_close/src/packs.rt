@@ -13,6 +13,7 @@ use memory::move_part;
 use objects::{Extent, Outline, Which};
 use register::Register;
 use serializer_state::SerializerState;
+use std::cmp::Ordering;
 
 // Whether an object has no links.
 fn linkless(object: Outline) -> bool
@@ -21,19 +22,19 @@ fn linkless(object: Outline) -> bool
     object.num_real_links == 0 && object.num_virtual_links == 0
 }
 
-// Closes the innermost object, which is not packed, with OTHER.
-fn close_flagged(s: &mut SerializerState)
-    ensures state { view s.new ≡ flagged_closed (view s.old) }
-{
-    s.objects.close();
-    let _ = s.flag(SerializeErrorFlags::SERIALIZE_ERROR_OTHER);
-}
-
 // Closes the innermost object, which is not packed.
 fn close_empty(s: &mut SerializerState)
     ensures state { view s.new ≡ closed (view s.old) }
 {
     s.objects.close();
+}
+
+// Closes the innermost object, which is not packed, with OTHER.
+fn close_flagged(s: &mut SerializerState)
+    ensures state { view s.new ≡ flagged_closed (view s.old) }
+{
+    close_empty(s);
+    let _ = s.flag(SerializeErrorFlags::SERIALIZE_ERROR_OTHER);
 }
 
 // Moves the bytes from a place up to head so that they end at tail, and answers where they lie then.
@@ -108,24 +109,23 @@ pub fn pop_pack<R: Register>(
     if s.idle() {
         return None;
     }
-    let Some(object) = s.objects.outline(Which::Innermost) else {
-        return None;
-    };
-    if s.cursor.head < object.extent.head {
-        close_flagged(s);
-        return None;
-    }
-    if s.cursor.head > object.extent.head {
-        let at = lift(s, object.extent.head);
-        if share {
-            return Some(pack_shared(s, at, register));
+    let object = s.objects.outline(Which::Innermost)?;
+    match s.cursor.head.cmp(&object.extent.head) {
+        Ordering::Greater => {
+            let at = lift(s, object.extent.head);
+            Some(if share {
+                pack_shared(s, at, register)
+            } else {
+                pack_new(s, at)
+            })
         }
-        return Some(pack_new(s, at));
+        Ordering::Equal if linkless(object) => {
+            close_empty(s);
+            None
+        }
+        Ordering::Equal | Ordering::Less => {
+            close_flagged(s);
+            None
+        }
     }
-    if linkless(object) {
-        close_empty(s);
-        return None;
-    }
-    close_flagged(s);
-    None
 }

@@ -4,7 +4,7 @@ ghost use Rattle.std.specs.Option.{option_map};
 ghost use Rattle.scalar.specs.Place.{part};
 ghost use Rattle.model.specs.State.{index};
 ghost use Rattle.model.specs.Declining.{nothing_open};
-ghost use Rattle.model.specs.Closing.{hash as hashed, twin as least_twin};
+ghost use Rattle.model.specs.Closing.{hash as hashed, same_bytes, twin as least_twin};
 ghost use Rattle.model.specs.Reading.{real_of};
 ghost use Rattle.objects.specs.Change.{first};
 ghost use Rattle.serializer_state.specs.View.{view};
@@ -16,19 +16,25 @@ use objects::{Extent, Which};
 use register::{Register, least_where};
 use serializer_state::SerializerState;
 
+// Whether the bytes at two extents are the same.
+fn same_bytes_at(s: &SerializerState, a: Extent, b: Extent) -> bool
+    ensures answer { result ≡ same_bytes (part (view s.now).memory a.head a.tail) (part (view s.now).memory b.head b.tail) }
+{
+    same_parts(
+        part_of(&s.memory, a.head, a.tail),
+        part_of(&s.memory, b.head, b.tail),
+    )
+}
+
 // Whether a packed object has the bytes at an extent, and the real links of the innermost object.
 fn like(s: &SerializerState, number: ObjIdx, at: Extent) -> bool
     requires opened { nothing_open (view s.now) ≡ false }
     ensures answer { result ≡ like_numbered (view s.now) at.head at.tail number.0 }
 {
-    let Some(other) = s.objects.outline(Which::Numbered(number)) else {
-        return false;
-    };
-    let theirs = part_of(&s.memory, other.extent.head, other.extent.tail);
-    let ours = part_of(&s.memory, at.head, at.tail);
-    same_parts(theirs, ours)
-        && s.objects
-            .same_links(Which::Numbered(number), Which::Innermost)
+    let which = Which::Numbered(number);
+    s.objects.outline(which).is_some_and(|other| {
+        same_bytes_at(s, other.extent, at) && s.objects.same_links(which, Which::Innermost)
+    })
 }
 
 // The hash of the bytes at an extent and of the real links of the innermost object.
