@@ -14,13 +14,13 @@ pub one_among : (xs : List Row) (h n k : ℕ) → k < length xs → is (pair (ge
 one_among xs h n k l t = among_one (pairs xs) h n k (pair nil) (omega (arith, length-map xs pair)) (rw (get_or-map pair xs k nil (pair nil) l) t)
 
 -- a row that stands before another is not it
-apart : (a b : Row) → before a b ≡ true → is (pair a) b.hash b.number ≡ false
+apart : (a b : Row) → before a b ≡ true → is (pair a) b.hash b.number.0 ≡ false
 apart a b p = grind (arith, nat_tests)
 
-pub found_among : (xs : List Row) (row : Row) (p : ℕ) → Found xs row p → among (pairs xs) row.hash row.number ≡ true
+pub found_among : (xs : List Row) (row : Row) (p : ℕ) → Found xs row p → among (pairs xs) row.hash row.number.0 ≡ true
 found_among xs row p f = one_among xs _ _ p f.within (rw (f.here nil) (grind (arith, nat_tests)))
 
-pub missing_among : (xs : List Row) (row : Row) (p : ℕ) → Missing xs row p → among (pairs xs) row.hash row.number ≡ false
+pub missing_among : (xs : List Row) (row : Row) (p : ℕ) → Missing xs row p → among (pairs xs) row.hash row.number.0 ≡ false
 missing_among xs row p m = none_among xs _ _ (λ k l. elim (cases_lt k p) [
   | inl lt ↦ apart (get_or xs k nil) row (m.below k nil lt)
   | inr ge ↦ apart_back (get_or xs k nil) row (m.above k nil ge l)
@@ -30,20 +30,20 @@ missing_among xs row p m = none_among xs _ _ (λ k l. elim (cases_lt k p) [
 split_pairs : (xs : List Row) (p : ℕ) → pairs (take p xs) ++ pairs (drop p xs) ≡ pairs xs
 split_pairs xs p = sym (map-append pair (take p xs) (drop p xs)) ∙ ap pairs (take-append-drop p xs)
 
-pub entered_inserted : (xs : List Row) (p room : ℕ) (row : Row) → Missing xs row p → length xs < room → pairs_of (pairs (insert xs p row)) room ≡ entered (pairs_of (pairs xs) room) row.hash row.number
+pub entered_inserted : (xs : List Row) (p room : ℕ) (row : Row) → Missing xs row p → length xs < room → pairs_of (pairs (insert xs p row)) room ≡ entered (pairs_of (pairs xs) room) row.hash row.number.0
 entered_inserted xs p room row m l =
     let e = split_pairs xs p in
     let f = missing_among xs row p m in
     let n = length-map xs pair in
     ap (λ z. pairs_of z room) (map-append pair (take p xs) (row ∷ drop p xs))
     ∙ entered_put (pairs (take p xs)) (pairs (drop p xs)) (pair row) room (rw e f) (rw e (omega arith))
-    ∙ ap (λ z. entered (pairs_of z room) row.hash row.number) e
+    ∙ ap (λ z. entered (pairs_of z room) row.hash row.number.0) e
 
-pub struck_removed : (xs : List Row) (p room : ℕ) (row : Row) → Ordered xs → Found xs row p → pairs_of (pairs (remove xs p)) room ≡ struck (pairs_of (pairs xs) room) row.hash row.number
+pub struck_removed : (xs : List Row) (p room : ℕ) (row : Row) → Ordered xs → Found xs row p → pairs_of (pairs (remove xs p)) room ≡ struck (pairs_of (pairs xs) room) row.hash row.number.0
 struck_removed xs p room row o f =
     let e : pairs (take p xs) ++ pair row ∷ pairs (drop (p + 1) xs) ≡ pairs xs =
     ap (λ z. pairs (take p xs) ++ pair z ∷ pairs (drop (p + 1) xs)) (sym (f.here nil)) ∙ ap (λ z. pairs (take p xs) ++ pairs z) (sym (drop_more xs p nil f.within)) ∙ split_pairs xs p in
     let d = ordered_distinct xs o in
     rw (← add-one p) (ap (λ z. pairs_of z room) (map-append pair (take p xs) (drop (p + 1) xs)))
     ∙ struck_drop (pairs (take p xs)) (pairs (drop (p + 1) xs)) (pair row) room (rw e d)
-    ∙ ap (λ z. struck (pairs_of z room) row.hash row.number) e
+    ∙ ap (λ z. struck (pairs_of z room) row.hash row.number.0) e

@@ -20,9 +20,9 @@ before_not a b p = grind (arith, nat_tests)
 -- two rows of which neither stands before the other are the same
 pub neither : (a b : Row) → before a b ≡ false → before b a ≡ false → a ≡ b
 neither a b p q =
-    let n : a.number ≡ b.number = grind (arith, nat_tests) in
+    let n : a.number.0 ≡ b.number.0 = grind (arith, nat_tests) in
     let h : a.hash ≡ b.hash = grind (arith, nat_tests) in
-    λ i. record { number = n i; hash = h i }
+    λ i. record { number = record { 0 = n i }; hash = h i }
 
 -- the order, whatever stands past the end
 pub places : (xs : List Row) → Ordered xs → (i j : ℕ) (d : Row) → i < j → j < length xs → before (get_or xs i d) (get_or xs j d) ≡ true

@@ -12,11 +12,11 @@ pub none_among : (xs : List Row) (h n : ℕ) → ((k : ℕ) → k < length xs �
 none_among xs h n f = among_none (pairs xs) h n (λ k d l. let m : k < length xs = omega (arith, length-map xs pair) in rw (get_or-map pair xs k nil d m) (f k m))
 
 -- a row that another stands before is not it
-pub apart_back : (a b : Row) → before b a ≡ true → is (pair a) b.hash b.number ≡ false
+pub apart_back : (a b : Row) → before b a ≡ true → is (pair a) b.hash b.number.0 ≡ false
 apart_back a b p = grind (arith, nat_tests)
 
 -- rows in order have no pair twice
-leads_apart : (x : Row) (xs : List Row) → Ordered (x ∷ xs) → among (pairs xs) x.hash x.number ≡ false
+leads_apart : (x : Row) (xs : List Row) → Ordered (x ∷ xs) → among (pairs xs) x.hash x.number.0 ≡ false
 leads_apart x xs o = none_among xs _ _ (λ k l. apart_back (slice_index_or xs k nil) x (o 0 (suc k) (omega arith, omega arith)))
 
 pub ordered_distinct : (xs : List Row) → Ordered xs → distinct (pairs xs) ≡ true

@@ -4,18 +4,18 @@ use Rattle.register_list.specs.declared.row.Row.{Row}
 
 -- the pair of a row
 abbrev pub pair : Row → ℕ × ℕ
-pair r = (r.hash, r.number)
+pair r = (r.hash, r.number.0)
 
 abbrev pub pairs : List Row → List (ℕ × ℕ)
 pairs = map pair
 
 -- whether a stands before b
 abbrev pub before : Row → Row → Bool
-before a b = nat_lt a.number b.number || (a.number == b.number && nat_lt a.hash b.hash)
+before a b = nat_lt a.number.0 b.number.0 || (a.number.0 == b.number.0 && nat_lt a.hash b.hash)
 
 -- what stands past the end
 abbrev pub nil : Row
-nil = record { number = 0; hash = 0 }
+nil = record { number = record { 0 = 0 }; hash = 0 }
 
 -- each row stands before all that follow
 abbrev pub Ordered : List Row → Type 0

@@ -26,10 +26,7 @@ impl Register for ListRegister {
     ghost counted = { λ s. counted_rows s.rows.items s.rows.len s.capacity s.sorted s.rows.ok.0 s.within };
 
     fn enter(&mut self, hash: u64, number: ObjIdx) -> bool {
-        let row = Row {
-            number: number.0,
-            hash,
-        };
+        let row = Row { number, hash };
         let Err(at) = find(&self.rows, row) else {
             return true;
         };
@@ -41,17 +38,13 @@ impl Register for ListRegister {
     }
 
     fn strike(&mut self, hash: u64, number: ObjIdx) {
-        let row = Row {
-            number: number.0,
-            hash,
-        };
-        if let Ok(at) = find(&self.rows, row) {
+        if let Ok(at) = find(&self.rows, Row { number, hash }) {
             self.rows.remove(at);
         }
     }
 
     fn next(&self, hash: u64, from: ObjIdx) -> Option<ObjIdx> {
-        next_in(&self.rows, hash, from.0)
+        next_in(&self.rows, hash, from)
     }
 
     fn capacity(&self) -> usize {

@@ -1,5 +1,5 @@
 // A register that is a list of rows in order of number, and under one number by hash. A row is found by
-// bisection. All memory is taken when it is made.
+// bisection. All memory is taken when it is made, so the rows are no map, which allocates at an entry.
 #![tactic(auto)]
 
 ghost use Rattle.std.specs.Prelude.{◌≤◌, vec_len, vec_capacity};

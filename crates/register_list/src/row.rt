@@ -1,6 +1,7 @@
 // The rows of the list: their order, and how one is found, put in and read.
-ghost use Rattle.std.specs.Prelude.{◌≡◌, ◌+◌, ◌<◌, ◌≤◌, vec_len, vec_capacity, MatchResult};
-ghost use Rattle.std.specs.List.{insert};
+ghost use Rattle.std.specs.Prelude.{◌≡◌, ◌+◌, ◌<◌, ◌≤◌, vec_len, vec_capacity, MatchResult, ◌==◌};
+ghost use Rattle.std.specs.List.{find, insert};
+ghost use Rattle.std.specs.Option.{option_map};
 ghost use Rattle.register.specs.Pairs.{Next, pairs_of};
 ghost use Rattle.register_list.specs.Rows.{Ordered, Found, Missing, Place, pairs};
 
@@ -9,7 +10,7 @@ use link::ObjIdx;
 // The number stands first, so that the derived order is the list's.
 #[derive(Clone, Copy, PartialEq, Eq, PartialOrd, Ord)]
 pub(crate) struct Row {
-    pub(crate) number: usize,
+    pub(crate) number: ObjIdx,
     pub(crate) hash: u64,
 }
 
@@ -26,23 +27,25 @@ fn place(rows: &[Row], row: Row) -> usize
     requires { Ordered rows.now }
     ensures answer { Place rows.now row result }
 {
-    match find(rows, row) {
-        Ok(at) | Err(at) => at,
-    }
+    find(rows, row).unwrap_or_else(|at| at)
+}
+
+// The number of the first row under the hash.
+fn first_under(rows: &[Row], hash: u64) -> Option<ObjIdx>
+    ensures answer { result ≡ option_map (λ row. row.number) (find (λ row. row.hash == hash) rows.now) }
+{
+    rows.iter()
+        .find(|row| row.hash == hash)
+        .map(|row| row.number)
 }
 
 // The least number of the rows that is not below `from` and stands under the hash.
-pub(crate) fn next_in(rows: &[Row], hash: u64, from: usize) -> Option<ObjIdx>
+pub(crate) fn next_in(rows: &[Row], hash: u64, from: ObjIdx) -> Option<ObjIdx>
     requires { Ordered rows.now }
-    ensures answer { Next (pairs_of (pairs rows.now) 0) hash from result }
+    ensures answer { Next (pairs_of (pairs rows.now) 0) hash from.0 result }
 {
     let at = place(rows, Row { number: from, hash });
-    for row in &rows[at..] {
-        if row.hash == hash {
-            return Some(ObjIdx(row.number));
-        }
-    }
-    None
+    first_under(&rows[at..], hash)
 }
 
 // Puts a row in where there is capacity for it: nothing is allocated.

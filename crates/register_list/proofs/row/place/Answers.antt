@@ -1,8 +1,17 @@
+use Rattle.std.proofs.Common.{◌≡◌, ℕ, Ok, Err, Result, refl, rules}
+use Rattle.register_list.specs.Rows.{Place}
 use Rattle.register_list.proofs.Walk.{found_place, missing_place}
 use Rattle.register_list.proofs.row.place.Goals as goal
 
-pub returns-in-Ok : goal.returns-in-Ok
-returns-in-Ok c = record { answer = found_place c.args.rows.now c.args.row c.in-Ok.at c.requires c.in-Ok.ensures.answer }
+by_result : (c : goal.After-unwrap_or_else) (r : Result ℕ ℕ) → c.find.result ≡ r → Place c.args.rows.now c.args.row c.unwrap_or_else.result
+by_result c (Ok at) e =
+    let h = rw e at c.unwrap_or_else.ensures in
+    let s : c.unwrap_or_else.result ≡ at = search rules in
+    rw s (found_place _ _ _ c.requires (rw e at c.find.ensures.answer))
+by_result c (Err at) e =
+    let h = rw e at c.unwrap_or_else.ensures in
+    let s : c.unwrap_or_else.result ≡ at = search rules in
+    rw s (missing_place _ _ _ (rw e at c.find.ensures.answer))
 
-pub returns-in-Ok-2 : goal.returns-in-Ok-2
-returns-in-Ok-2 c = record { answer = missing_place c.args.rows.now c.args.row c.in-Ok.at c.in-Ok.ensures.answer }
+pub returns : goal.returns
+returns c = record { answer = by_result c _ refl }

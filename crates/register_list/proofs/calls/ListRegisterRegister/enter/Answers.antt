@@ -1,6 +1,6 @@
-use Rattle.std.proofs.Common.{◌<◌, ◌≤◌, length, vec_items, sym, arith}
+use Rattle.std.proofs.Common.{vec_items, sym, arith}
 use lib.ListN.{length-map}
-use Rattle.register.proofs.Listed.{fits_held, fits_new, fits_full, entered_held, entered_full}
+use Rattle.register.proofs.Listed.{fits_held, fits_full, entered_held}
 use Rattle.register_list.specs.Rows.{pair, pairs}
 use Rattle.register_list.proofs.Member.{found_among, missing_among, entered_inserted}
 use Rattle.register_list.proofs.Order.{ordered_inserted}
@@ -12,26 +12,14 @@ returns-in_default c =
     let yes = found_among xs _ _ (rw c.deref.ensures.value at c.in_default.ensures.answer) in
     record { answer = sym (fits_held (pairs xs) _ _ _ yes); register = entered_held (pairs xs) _ _ _ yes }
 
-pub returns-then-len-self : goal.returns-then-len-self
-returns-then-len-self c =
+pub returns-then-len-self-clause-answer : goal.returns-then-len-self-clause-answer
+returns-then-len-self-clause-answer c =
     let xs = vec_items c.args.self.now.rows in
-    let no = missing_among xs _ _ (rw c.deref.ensures.value at c.in-Err.ensures.answer) in
     let n = length-map xs pair in
-    let full : c.args.self.now.capacity ≤ length (pairs xs) = omega arith in
-    record { answer = sym (fits_full (pairs xs) _ _ _ no full); register = entered_full (pairs xs) _ _ _ no full }
+    sym (fits_full (pairs xs) _ _ _ (missing_among xs _ _ (rw c.deref.ensures.value at c.in-Err.ensures.answer)) (omega arith))
 
-pub invariant_of-self : goal.invariant_of-self
-invariant_of-self c =
-    let m = rw c.deref.ensures.value at c.in-Err.ensures.answer in
-    record { sorted = rw c.put.ensures.items (ordered_inserted _ _ _ c.args.self.now.sorted m); within = omega arith; reserved = omega arith }
+pub invariant_of-self-clause-sorted : goal.invariant_of-self-clause-sorted
+invariant_of-self-clause-sorted c = rw c.put.ensures.items (ordered_inserted _ _ _ c.args.self.now.sorted (rw c.deref.ensures.value at c.in-Err.ensures.answer))
 
-pub returns : goal.returns
-returns c =
-    let xs = vec_items c.args.self.now.rows in
-    let m = rw c.deref.ensures.value at c.in-Err.ensures.answer in
-    let n = length-map xs pair in
-    let room : length xs < c.args.self.now.capacity = omega arith in
-    record {
-      answer = sym (fits_new (pairs xs) _ _ _ (omega arith));
-      register = rw c.put.ensures.items (entered_inserted xs _ _ _ m room);
-    }
+pub returns-clause-register : goal.returns-clause-register
+returns-clause-register c = rw c.put.ensures.items (entered_inserted (vec_items c.args.self.now.rows) _ _ _ (rw c.deref.ensures.value at c.in-Err.ensures.answer) (omega arith))
