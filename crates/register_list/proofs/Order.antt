@@ -1,10 +1,10 @@
 -- The order of the rows: what `before` allows, and that a row put in or taken out at its place keeps it. Used by the proofs of every call.
-use Rattle.std.proofs.Common.{◌≡◌, ℕ, ◌+◌, ◌-◌, ◌<◌, ◌≤◌, true, false, ◌⊎◌, List, length, get_or, ap, ◌∙◌, inl, inr, arith}
+use Rattle.std.proofs.Common.{◌≡◌, ℕ, ◌+◌, ◌-◌, ◌<◌, true, false, ◌⊎◌, List, length, get_or, ap, ◌∙◌, inl, inr, arith}
 use Rattle.std.proofs.lemmas.Bool.Decides.{nat_tests}
 use Rattle.std.proofs.lemmas.Bool.{cases_order, cases_lt}
 use Rattle.std.proofs.lemmas.List.{get_or_default}
-use Rattle.std.specs.List.{insert, remove}
-use Rattle.std.proofs.lemmas.List.Edits.{length-insert, get_or-insert_below, get_or-insert_at, get_or-insert_above, length-remove, get_or-remove_below, get_or-remove_above}
+use Rattle.std.specs.List.{insert}
+use Rattle.std.proofs.lemmas.List.Edits.{length-insert, get_or-insert_below, get_or-insert_at, get_or-insert_above}
 use Rattle.register_list.specs.declared.row.Row.{Row}
 use Rattle.register_list.specs.Rows.{before, nil, Ordered, Missing}
 
@@ -63,20 +63,4 @@ module _ (xs : List Row) (p : ℕ) (row : Row) (o : Ordered xs) (free : Missing 
           | inr (inl (b, t)) ↦ absurd (omega arith)
           | inr (inr (b, t)) ↦ rw (s, t) (o (i - 1) (j - 1) (omega arith, omega arith))
         ]
-      ]
-
--- a row taken out
-module _ (xs : List Row) (p : ℕ) (o : Ordered xs) (lp : p < length xs) where
-  at_removed : (k : ℕ) → ((k < p) × (get_or (remove xs p) k nil ≡ get_or xs k nil)) ⊎ ((p ≤ k) × (get_or (remove xs p) k nil ≡ get_or xs (k + 1) nil))
-  at_removed k = elim (cases_lt k p) [
-    | inl lt ↦ inl (lt, get_or-remove_below xs p nil k lt lp)
-    | inr ge ↦ inr (ge, get_or-remove_above xs p nil k ge lp)
-  ]
-
-  pub ordered_removed : Ordered (remove xs p)
-  ordered_removed i j (l, m) =
-      let n : length (remove xs p) + 1 ≡ length xs = length-remove xs p lp in
-      elim (at_removed i) [
-        | inl (a, s) ↦ elim (at_removed j) [ inl (b, t) ↦ rw (s, t) (o i j (l, omega arith)) | inr (b, t) ↦ rw (s, t) (o i (j + 1) (omega arith, omega arith)) ]
-        | inr (a, s) ↦ elim (at_removed j) [ inl (b, t) ↦ absurd (omega arith) | inr (b, t) ↦ rw (s, t) (o (i + 1) (j + 1) (omega arith, omega arith)) ]
       ]

@@ -4,9 +4,7 @@ use Rattle.std.proofs.lemmas.Bool.Decides.{nat_tests}
 use Rattle.std.proofs.lemmas.Bool.{cases_Bool, and_parts, eqb-true, leb-true, leb-false, cond-true, cond-false, lt-ltb}
 use Rattle.link.specs.declared.ObjIdx.{ObjIdx}
 use Rattle.register.specs.Pairs.{pairs_of, Next}
-use Rattle.register_table.specs.declared.cells.Cell.{Cell}
 use Rattle.register_table.specs.declared.cells.Entry.{Entry}
-use Rattle.register_table.specs.declared.cells.Cell.TheVariants.{Free, Held}
 use Rattle.register_table.specs.Round.{far}
 use Rattle.register_table.specs.Cells.{entries, has, filled, times, Reached, better, lesser}
 use Rattle.register_table.specs.Laws.{among_entries}
@@ -18,9 +16,9 @@ abbrev pub Under : Option ObjIdx → ℕ → Type 0
 Under None m = Unit {0}
 Under (Some i) m = m < i.0
 
-module _ (cs : List Cell) (h low : ℕ) where
+module _ (cs : List (Option Entry)) (h low : ℕ) where
   -- the cell has no number of the hash that would be less than the best
-  abbrev pub NoLess : Option ObjIdx → Cell → Type 0
+  abbrev pub NoLess : Option ObjIdx → Option Entry → Type 0
   NoLess best c = (m : ℕ) → low ≤ m → Under best m → has h m c ≡ false
 
   -- the best is held, and not below `low`
@@ -30,7 +28,7 @@ module _ (cs : List Cell) (h low : ℕ) where
 
   -- at an entry the best stays, or becomes the entry's
   Stays : Option ObjIdx → Entry → Type 0
-  Stays best e = (better h low best e ≡ best) × NoLess best (Held e)
+  Stays best e = (better h low best e ≡ best) × NoLess best (Some e)
 
   Turns : Option ObjIdx → Entry → Type 0
   Turns best e = (better h low best e ≡ Some e.number) × (e.hash ≡ h) × (low ≤ e.number.0) × ((m : ℕ) → m < e.number.0 → Under best m)
@@ -53,7 +51,7 @@ module _ (cs : List Cell) (h low : ℕ) where
         ] is
   ]
 
-  pub best_more : (best : Option ObjIdx) (e : Entry) (k : ℕ) → k < length cs → get_or cs k Free ≡ Held e → Best best → Best (better h low best e)
+  pub best_more : (best : Option ObjIdx) (e : Entry) (k : ℕ) → k < length cs → get_or cs k None ≡ Some e → Best best → Best (better h low best e)
   unfolding Stays Turns
   best_more best e k kl at b = elim (better_cases best e) [
     | inl (is, _) ↦ subst Best (sym is) b
@@ -67,7 +65,7 @@ module _ (cs : List Cell) (h low : ℕ) where
     | inr (is, _, _, under) ↦ subst (λ b. Passed cs s t (NoLess b)) (sym is) (λ j jl m l u. p j jl m l (under m u))
   ]
 
-  pub here_less : (best : Option ObjIdx) (e : Entry) (c : Cell) → c ≡ Held e → NoLess (better h low best e) c
+  pub here_less : (best : Option ObjIdx) (e : Entry) (c : Option Entry) → c ≡ Some e → NoLess (better h low best e) c
   unfolding Stays Turns
   here_less best e c at = elim (better_cases best e) [
     | inl (is, none) ↦ subst (λ b. NoLess b c) (sym is) (λ m l u. ap (has h m) at ∙ none m l u)
@@ -77,7 +75,7 @@ module _ (cs : List Cell) (h low : ℕ) where
   none_among : (m : ℕ) → times cs h m ≡ 0 → (room : ℕ) → (pairs_of (entries cs) room).has h m ≡ false
   none_among m z room = among_entries cs h m ∙ ap (ltb 0) z
 
-  pub next_from : (best : Option ObjIdx) (at : ℕ) → filled cs < length cs → at < length cs → ((k : ℕ) → Reached cs k) → get_or cs at Free ≡ Free
+  pub next_from : (best : Option ObjIdx) (at : ℕ) → filled cs < length cs → at < length cs → ((k : ℕ) → Reached cs k) → get_or cs at None ≡ None
       → Passed cs (h % length cs) (far (length cs) (h % length cs) at) (NoLess best) → Best best → (room : ℕ) → Next (pairs_of (entries cs) room) h low best
   next_from None at some al ok free seen b room =
       λ m l. none_among m (unseen cs h m at (home_less cs h some) al ok free (λ j jl. seen j jl m l tt)) room

@@ -3,54 +3,52 @@ use Rattle.std.specs.Prelude.{◌≡◌, ℕ, ◌%◌, ◌<◌, Bool, true, fals
 use Rattle.link.specs.declared.ObjIdx.{ObjIdx}
 use Rattle.register.specs.Pairs.{same_pair}
 use Rattle.register_table.specs.declared.cells.Entry.{Entry}
-use Rattle.register_table.specs.declared.cells.Cell.{Cell}
-use Rattle.register_table.specs.declared.cells.Cell.TheVariants.{Free, Held}
 use Rattle.register_table.specs.Round.{ahead, far}
 
 -- the pairs of the cells
-abbrev pub entries : List Cell → List (ℕ × ℕ)
+abbrev pub entries : List (Option Entry) → List (ℕ × ℕ)
 entries [] = []
-entries (Free ∷ cs) = entries cs
-entries (Held e ∷ cs) = (e.hash, e.number.0) ∷ entries cs
+entries (None ∷ cs) = entries cs
+entries (Some e ∷ cs) = (e.hash, e.number.0) ∷ entries cs
 
-abbrev pub full : Cell → Bool
-full Free = false
-full (Held e) = true
+abbrev pub full : Option Entry → Bool
+full None = false
+full (Some e) = true
 
 -- whether the cell has the pair h, n
-abbrev pub has : ℕ → ℕ → Cell → Bool
-has h n Free = false
-has h n (Held e) = same_pair e.hash e.number.0 h n
+abbrev pub has : ℕ → ℕ → Option Entry → Bool
+has h n None = false
+has h n (Some e) = same_pair e.hash e.number.0 h n
 
 -- how many cells are full, and how many have the pair h, n
-abbrev pub filled : List Cell → ℕ
+abbrev pub filled : List (Option Entry) → ℕ
 filled cs = count_by full cs
 
-abbrev pub times : List Cell → ℕ → ℕ → ℕ
+abbrev pub times : List (Option Entry) → ℕ → ℕ → ℕ
 times cs h n = count_by (has h n) cs
 
 -- no cell is free on the first t steps of a search from s
-abbrev pub Open : List Cell → ℕ → ℕ → Type 0
-Open cs s t = (j : ℕ) → j < t → full (slice_index_or cs (ahead (length cs) s j) Free) ≡ true
+abbrev pub Open : List (Option Entry) → ℕ → ℕ → Type 0
+Open cs s t = (j : ℕ) → j < t → full (slice_index_or cs (ahead (length cs) s j) None) ≡ true
 
 -- where the search for the pair of a cell begins, and how many steps it is to the cell k
-abbrev pub begin : ℕ → Cell → ℕ
-begin n Free = 0
-begin n (Held e) = e.hash % n
+abbrev pub begin : ℕ → Option Entry → ℕ
+begin n None = 0
+begin n (Some e) = e.hash % n
 
-abbrev pub way : ℕ → ℕ → Cell → ℕ
-way n k Free = 0
-way n k (Held e) = far n (e.hash % n) k
+abbrev pub way : ℕ → ℕ → Option Entry → ℕ
+way n k None = 0
+way n k (Some e) = far n (e.hash % n) k
 
 -- the search for the pair of the cell k comes to it
-abbrev pub Reached : List Cell → ℕ → Type 0
-Reached cs k = Open cs (begin (length cs) (slice_index_or cs k Free)) (way (length cs) k (slice_index_or cs k Free))
+abbrev pub Reached : List (Option Entry) → ℕ → Type 0
+Reached cs k = Open cs (begin (length cs) (slice_index_or cs k None)) (way (length cs) k (slice_index_or cs k None))
 
 -- the answer of a search: the cell of the pair, or else the free cell at which it ends
-abbrev pub Sought : List Cell → ℕ → ℕ → Result ℕ ℕ → Type 0
+abbrev pub Sought : List (Option Entry) → ℕ → ℕ → Result ℕ ℕ → Type 0
 Sought cs h n r =
-    MatchResult r (λ k. (k < length cs) × (has h n (slice_index_or cs k Free) ≡ true))
-    (λ k. (k < length cs) × (slice_index_or cs k Free ≡ Free) × (times cs h n ≡ 0) × Open cs (h % length cs) (far (length cs) (h % length cs) k))
+    MatchResult r (λ k. (k < length cs) × (has h n (slice_index_or cs k None) ≡ true))
+    (λ k. (k < length cs) × (slice_index_or cs k None ≡ None) × (times cs h n ≡ 0) × Open cs (h % length cs) (far (length cs) (h % length cs) k))
 
 -- the lesser of two numbers
 abbrev pub lesser : Option ObjIdx → ObjIdx → Option ObjIdx

@@ -5,7 +5,7 @@ ghost use Rattle.register_table.specs.Meaning.{meaning, width};
 ghost use Rattle.register_table.specs.Laws.{counted_cells};
 
 use crate::TableRegister;
-use crate::cells::{Cell, Entry};
+use crate::cells::Entry;
 use crate::gap::vacate;
 use crate::probe::{least, seek};
 use link::ObjIdx;
@@ -23,7 +23,7 @@ impl TableRegister {
         let Some(least) = capacity.checked_add(1) else {
             return Err(AllocError);
         };
-        let cells = vec![in heap; Cell::Free; cells.max(least)]?;
+        let cells = vec![in heap; None; cells.max(least)]?;
         Ok(TableRegister {
             cells,
             capacity,
@@ -38,23 +38,23 @@ impl Register for TableRegister {
     ghost counted = { λ s. counted_cells s.cells.items s.count s.capacity s.once s.counted s.within };
 
     fn enter(&mut self, hash: u64, number: ObjIdx) -> bool {
-        let Err(at) = seek(&self.cells, hash, number) else {
+        let entry = Entry { hash, number };
+        let Err(at) = seek(&self.cells, entry) else {
             return true;
         };
         if self.count == self.capacity {
             return false;
         }
-        self.cells[at] = Cell::Held(Entry { hash, number });
+        self.cells[at] = Some(entry);
         self.count += 1;
         true
     }
 
     fn strike(&mut self, hash: u64, number: ObjIdx) {
-        let Ok(at) = seek(&self.cells, hash, number) else {
-            return;
-        };
-        vacate(&mut self.cells, at);
-        self.count -= 1;
+        if let Ok(at) = seek(&self.cells, Entry { hash, number }) {
+            vacate(&mut self.cells, at);
+            self.count -= 1;
+        }
     }
 
     fn next(&self, hash: u64, from: ObjIdx) -> Option<ObjIdx> {

@@ -4,17 +4,11 @@ ghost use Rattle.register_table.specs.Round.{ahead, far};
 
 use link::ObjIdx;
 
-// A pair that is held.
-#[derive(Clone, Copy)]
+// A pair that is held. A cell of the table has one, or is free.
+#[derive(Clone, Copy, PartialEq, Eq)]
 pub(crate) struct Entry {
     pub hash: u64,
     pub number: ObjIdx,
-}
-
-#[derive(Clone, Copy)]
-pub(crate) enum Cell {
-    Free,
-    Held(Entry),
 }
 
 // The cell at which the search for a hash begins.

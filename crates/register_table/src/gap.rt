@@ -2,16 +2,15 @@
 // into it, and so on from the gap that it leaves. A search is then as long as the pairs that are held make it, whatever
 // was held before.
 ghost use Rattle.std.specs.Prelude.{◌≡◌, ℕ, ◌<◌, true, length, slice_index_or};
-ghost use Rattle.register_table.specs.declared.cells.Cell.TheVariants.{Free};
 ghost use Rattle.register_table.specs.Cells.{full, filled, Reached};
 ghost use Rattle.register_table.specs.Shift.{shifted, gap_after, Without};
 
-use crate::cells::{Cell, Entry, distance, following, home};
+use crate::cells::{Entry, distance, following, home};
 
 // Takes the pair of a cell out.
-pub(crate) fn vacate(cells: &mut [Cell], start: usize)
+pub(crate) fn vacate(cells: &mut [Option<Entry>], start: usize)
     requires within { start < length cells.old }
-    requires held { full (slice_index_or cells.old start Free) ≡ true }
+    requires held { full (slice_index_or cells.old start None) ≡ true }
     requires free { filled cells.old < length cells.old }
     requires reached { (k : ℕ) → Reached cells.old k }
     ensures pairs { Without cells.old start cells.new }
@@ -20,15 +19,15 @@ pub(crate) fn vacate(cells: &mut [Cell], start: usize)
     let size = cells.len();
     let mut gap = start;
     let mut at = following(start, size);
-    while let Cell::Held(e) = cells[at] {
+    while let Some(e) = cells[at] {
         gap = shift(cells, gap, at, e);
         at = following(at, size);
     }
-    cells[gap] = Cell::Free;
+    cells[gap] = None;
 }
 
 // Moves the entry of the cell `at` into the gap if its search goes over it, and answers where the gap is then.
-fn shift(cells: &mut [Cell], gap: usize, at: usize, e: Entry) -> usize
+fn shift(cells: &mut [Option<Entry>], gap: usize, at: usize, e: Entry) -> usize
     requires { (gap < length cells.old) × (at < length cells.old) }
     ensures answer { result ≡ gap_after cells.old gap at e }
     ensures cells { cells.new ≡ shifted cells.old gap at e }
@@ -37,6 +36,6 @@ fn shift(cells: &mut [Cell], gap: usize, at: usize, e: Entry) -> usize
     if distance(gap, at, size) > distance(home(e.hash, size), at, size) {
         return gap;
     }
-    cells[gap] = Cell::Held(e);
+    cells[gap] = Some(e);
     at
 }

@@ -11,11 +11,11 @@ mod cells;
 mod gap;
 mod probe;
 
-use cells::Cell;
+use cells::Entry;
 
 #[derive(Drop)]
 pub struct TableRegister {
-    cells: Vec<Cell>,
+    cells: Vec<Option<Entry>>,
     capacity: usize,
     count: usize,
     // No cell is free between the one at which the search for a pair begins and its own.

@@ -3,18 +3,18 @@ ghost use Rattle.std.specs.Prelude.{◌≡◌, ℕ, ◌<◌, length};
 ghost use Rattle.register.specs.Pairs.{Next, pairs_of};
 ghost use Rattle.register_table.specs.Cells.{entries, filled, Reached, Sought, better};
 
-use crate::cells::{Cell, Entry, following, home};
+use crate::cells::{Entry, following, home};
 use link::ObjIdx;
 
 // The cell of a pair. Where it is not held, `Err` has the free cell at which the search for it ends.
-pub(crate) fn seek(cells: &[Cell], hash: u64, number: ObjIdx) -> Result<usize, usize>
+pub(crate) fn seek(cells: &[Option<Entry>], entry: Entry) -> Result<usize, usize>
     requires free { filled cells.now < length cells.now }
     requires reached { (k : ℕ) → Reached cells.now k }
-    ensures { Sought cells.now hash number.0 result }
+    ensures { Sought cells.now entry.hash entry.number.0 result }
 {
-    let mut at = home(hash, cells.len());
-    while let Cell::Held(e) = cells[at] {
-        if e.hash == hash && e.number == number {
+    let mut at = home(entry.hash, cells.len());
+    while let Some(e) = cells[at] {
+        if e == entry {
             return Ok(at);
         }
         at = following(at, cells.len());
@@ -23,14 +23,14 @@ pub(crate) fn seek(cells: &[Cell], hash: u64, number: ObjIdx) -> Result<usize, u
 }
 
 // The least number held under the hash that is not below `from`.
-pub(crate) fn least(cells: &[Cell], hash: u64, from: ObjIdx) -> Option<ObjIdx>
+pub(crate) fn least(cells: &[Option<Entry>], hash: u64, from: ObjIdx) -> Option<ObjIdx>
     requires free { filled cells.now < length cells.now }
     requires reached { (k : ℕ) → Reached cells.now k }
     ensures { (room : ℕ) → Next (pairs_of (entries cells.now) room) hash from.0 result }
 {
     let mut best = None;
     let mut at = home(hash, cells.len());
-    while let Cell::Held(e) = cells[at] {
+    while let Some(e) = cells[at] {
         best = lesser(best, e, hash, from);
         at = following(at, cells.len());
     }
@@ -41,11 +41,8 @@ pub(crate) fn least(cells: &[Cell], hash: u64, from: ObjIdx) -> Option<ObjIdx>
 fn lesser(best: Option<ObjIdx>, e: Entry, hash: u64, from: ObjIdx) -> Option<ObjIdx>
     ensures { result ≡ better hash from.0 best e }
 {
-    if e.hash != hash || e.number.0 < from.0 {
+    if e.hash != hash || e.number < from {
         return best;
     }
-    match best {
-        Some(b) if b.0 <= e.number.0 => best,
-        _ => Some(e.number),
-    }
+    Some(best.map_or(e.number, |b| b.min(e.number)))
 }

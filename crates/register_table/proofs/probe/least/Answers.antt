@@ -7,19 +7,19 @@ use Rattle.register_table.proofs.probe.least.Goals as goal
 pub loop-at-smaller : goal.loop-at-smaller
 loop-at-smaller c =
     rw c.following-at.ensures.answer
-    (walked_less c.args.cells.now _ _ (home_less _ _ c.requires.free) c.loop-at.invariant.0.0 c.requires.free c.loop-at.invariant.0.1 (ap full c.in-Held.is))
+    (walked_less c.args.cells.now _ _ (home_less _ _ c.requires.free) c.loop-at.invariant.0.0 c.requires.free c.loop-at.invariant.0.1 (ap full c.in-Some.is))
 
 pub loop-at-preserved : goal.loop-at-preserved
 loop-at-preserved c =
     let cs = c.args.cells.now in
     let h = c.args.hash in
     let low = c.args.from.0 in
-    let b = better h low c.loop-at.best c.in-Held.e in
+    let b = better h low c.loop-at.best c.in-Some.e in
     let inv = c.loop-at.invariant in
     rw (c.following-at.ensures.answer, c.lesser-best.ensures) (
-      walked_more cs _ _ (home_less _ _ c.requires.free) inv.0.0 c.requires.free inv.0.1 (ap full c.in-Held.is) (NoLess cs h low b)
-          (passed_less cs h low c.loop-at.best c.in-Held.e _ _ inv.0.2) (here_less cs h low c.loop-at.best c.in-Held.e _ c.in-Held.is),
-      best_more cs h low c.loop-at.best c.in-Held.e c.loop-at.at inv.0.0 c.in-Held.is inv.1,
+      walked_more cs _ _ (home_less _ _ c.requires.free) inv.0.0 c.requires.free inv.0.1 (ap full c.in-Some.is) (NoLess cs h low b)
+          (passed_less cs h low c.loop-at.best c.in-Some.e _ _ inv.0.2) (here_less cs h low c.loop-at.best c.in-Some.e _ c.in-Some.is),
+      best_more cs h low c.loop-at.best c.in-Some.e c.loop-at.at inv.0.0 c.in-Some.is inv.1,
     )
 
 pub returns : goal.returns

@@ -12,11 +12,6 @@ returns-in_default c =
     let f = rw c.deref.ensures.value at c.in_default.ensures in
     record { register = struck_none (entries cs) _ _ _ (among_none cs c.args.hash c.args.number.0 f.2) }
 
-pub overflow_sub-self : goal.overflow_sub-self
-overflow_sub-self c =
-    let t = out c.args.self.now.cells.items c.vacate.new.cells c.in-Ok.at c.args.hash c.args.number.0 c.args.self.now.once (rw c.deref.ensures.value at c.in-Ok.ensures) (rw c.deref_mut.ensures.value at c.vacate.ensures.pairs) in
-    omega (arith, t.fewer, c.args.self.now.counted)
-
 pub invariant_of-self : goal.invariant_of-self
 invariant_of-self c =
     let t = out c.args.self.now.cells.items c.vacate.new.cells c.in-Ok.at c.args.hash c.args.number.0 c.args.self.now.once (rw c.deref.ensures.value at c.in-Ok.ensures) (rw c.deref_mut.ensures.value at c.vacate.ensures.pairs) in
@@ -29,8 +24,8 @@ invariant_of-self c =
       larger = omega arith;
     }
 
-pub returns : goal.returns
-returns c =
+pub returns-in-Ok : goal.returns-in-Ok
+returns-in-Ok c =
     let t = out c.args.self.now.cells.items c.vacate.new.cells c.in-Ok.at c.args.hash c.args.number.0 c.args.self.now.once (rw c.deref.ensures.value at c.in-Ok.ensures) (rw c.deref_mut.ensures.value at c.vacate.ensures.pairs) in
     let same = with_items_is c.args.self.now.cells c.vacate.new.cells (omega arith) in
     record { register = ap (λ xs. pairs_of (entries xs) c.args.self.now.capacity) same ∙ t.strikes _ }
