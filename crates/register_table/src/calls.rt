@@ -20,9 +20,7 @@ impl TableRegister {
         ensures register { IfOk result (λ t. meaning t ≡ empty capacity) }
         ensures cells { IfOk result (λ t. width t ≡ max cells (capacity + 1)) }
     {
-        let Some(least) = capacity.checked_add(1) else {
-            return Err(AllocError);
-        };
+        let least = capacity.checked_add(1).ok_or(AllocError)?;
         let cells = vec![in heap; None; cells.max(least)]?;
         Ok(TableRegister {
             cells,
