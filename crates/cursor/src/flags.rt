@@ -69,7 +69,7 @@ impl SerializeErrorFlags {
         *self
     }
 
-    // Whether every flag of the other set stands.
+    // Whether every flag of the other set stands. Asked of the bits: no operator takes flags away from a set.
     pub fn contains(self, other: SerializeErrorFlags) -> bool
         ensures answer { result ≡ contains self other }
     {

@@ -51,7 +51,7 @@ fn mix(hash: u64, byte: u8) -> u64
     (hash ^ u64::from(byte)).wrapping_mul(FNV_PRIME)
 }
 
-// The bytes one after another, from a hash on.
+// The bytes one after another, from a hash on: by the project's rule a loop over the elements of the slice.
 fn feed(mut hash: u64, bytes: &[u8]) -> u64
     ensures answer { result ≡ hashed_from hash bytes.now }
 {

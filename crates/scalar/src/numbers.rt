@@ -1,4 +1,5 @@
-// The numbers of Rust as scalars, in big-endian bytes: a signed one by its two's complement.
+// The numbers of Rust as scalars, in big-endian bytes: a signed one by its two's complement. What is the same for all of
+// them stands once in the lemmas over the width; an impl is its data and its functions, which know the type's own width.
 ghost use Rattle.std.specs.Prelude.{◌-◌, ◌/◌, ◌^◌, ◌<◌, true, false, pos, FitsSigned};
 ghost use Rattle.std.proofs.Common.{to_z, of_z, rules, lit≤};
 ghost use Rattle.std.specs.Int.{w16};
