@@ -5,6 +5,7 @@
 use fnv::FnvHasher;
 use link::{Link, LinkWidth, ObjIdx, OffsetWhence};
 use links::Links;
+use std::hash::Hasher;
 use std::io;
 
 // A call, with the numbers of its lists and, for `Append`, the object that the link leads to.

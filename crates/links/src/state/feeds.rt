@@ -7,6 +7,7 @@ ghost use Rattle.links.specs.Meaning.{list_at};
 use super::Links;
 use fnv::FnvHasher;
 use link::Link;
+use std::hash::Hasher;
 
 impl Links {
     // Feeds the links of the list in their order, and nothing where there is no such list. A list of the same
