@@ -25,33 +25,28 @@ row_steps cs n e k h =
     ∙ ap (λ (l : List Cell). (get_or l k d).next) e
     ∙ ap (λ (x : Cell). x.next) (get_or-map-range_with_len (λ i. record { link = no_link; next = i + 1 }) 0 n k k d h (omega arith))
 
--- n numbers from s on
-abbrev up : ℕ → ℕ → List ℕ
-up s zero = []
-up s (suc n) = s ∷ up (s + 1) n
-
-walk_up : (ns : List ℕ) (s n : ℕ) → ((k : ℕ) → s ≤ k → k < s + n → get_or ns k 0 ≡ k + 1) → walk ns s n ≡ up s n
+walk_up : (ns : List ℕ) (s n : ℕ) → ((k : ℕ) → s ≤ k → k < s + n → get_or ns k 0 ≡ k + 1) → walk ns s n ≡ range_with_len s n
 walk_up ns s zero h = refl
 walk_up ns s (suc n) h =
     ap (λ (t : ℕ). s ∷ walk ns t n) (h s (omega arith) (omega arith)) ∙ ap (λ (w : List ℕ). s ∷ w) (walk_up ns (s + 1) n (λ k a b. h k (omega arith) (omega arith)))
 
-up_below : (k s n : ℕ) → k < s → occ k (up s n) ≡ 0
+up_below : (k s n : ℕ) → k < s → occ k (range_with_len s n) ≡ 0
 up_below k s zero h = refl
-up_below k s (suc n) h = occ_other k s (up (s + 1) n) (omega arith) ∙ up_below k (s + 1) n (omega arith)
+up_below k s (suc n) h = occ_other k s (range_with_len (s + 1) n) (omega arith) ∙ up_below k (s + 1) n (omega arith)
 
-up_past : (k s n : ℕ) → s + n ≤ k → occ k (up s n) ≡ 0
+up_past : (k s n : ℕ) → s + n ≤ k → occ k (range_with_len s n) ≡ 0
 up_past k s zero h = refl
-up_past k s (suc n) h = occ_other k s (up (s + 1) n) (omega arith) ∙ up_past k (s + 1) n (omega arith)
+up_past k s (suc n) h = occ_other k s (range_with_len (s + 1) n) (omega arith) ∙ up_past k (s + 1) n (omega arith)
 
-up_step : (k s n : ℕ) → (k ≡ s) ⊎ (k ≡ s → ⊥) → s ≤ k → (s + 1 ≤ k → occ k (up (s + 1) n) ≡ 1) → occ k (up s (suc n)) ≡ 1
-up_step k s n (inl e) h r = subst (λ (t : ℕ). occ k (t ∷ up (s + 1) n) ≡ 1) e (omega (arith, occ_here k (up (s + 1) n), up_below k (s + 1) n (omega arith)))
-up_step k s n (inr e) h r = occ_other k s (up (s + 1) n) e ∙ r (omega arith)
+up_step : (k s n : ℕ) → (k ≡ s) ⊎ (k ≡ s → ⊥) → s ≤ k → (s + 1 ≤ k → occ k (range_with_len (s + 1) n) ≡ 1) → occ k (range_with_len s (suc n)) ≡ 1
+up_step k s n (inl e) h r = subst (λ (t : ℕ). occ k (t ∷ range_with_len (s + 1) n) ≡ 1) e (omega (arith, occ_here k (range_with_len (s + 1) n), up_below k (s + 1) n (omega arith)))
+up_step k s n (inr e) h r = occ_other k s (range_with_len (s + 1) n) e ∙ r (omega arith)
 
-up_in : (k s n : ℕ) → s ≤ k → k < s + n → occ k (up s n) ≡ 1
+up_in : (k s n : ℕ) → s ≤ k → k < s + n → occ k (range_with_len s n) ≡ 1
 up_in k s zero h g = absurd (omega arith)
 up_in k s (suc n) h g = up_step k s n (cases_eq k s) h (λ m. up_in k (s + 1) n m (omega arith))
 
-up_last : (d s n : ℕ) → last_of d (up s (suc n)) ≡ s + n
+up_last : (d s n : ℕ) → last_of d (range_with_len s (suc n)) ≡ s + n
 up_last d s zero = omega arith
 up_last d s (suc n) = up_last s (s + 1) n ∙ omega arith
 
@@ -66,7 +61,7 @@ blank_map {Y = Y} f x (suc n) = ap (λ (w : List Y). f x ∷ w) (blank_map f x n
 pub fresh_lists : (ls : List Link) (ns : List ℕ) (n : ℕ) → meaning ls ns (replicate n no_chain) ≡ replicate n []
 fresh_lists ls ns n = ap (map (links_at ls)) (blank_map (nodes ns) no_chain n) ∙ blank_map (links_at ls) [] n
 
-fresh_end : (cells : ℕ) → last_of (cells - 1) (up 0 cells) ≡ cells - 1
+fresh_end : (cells : ℕ) → last_of (cells - 1) (range_with_len 0 cells) ≡ cells - 1
 fresh_end zero = refl
 fresh_end (suc n) = up_last (suc n - 1) 0 n ∙ omega arith
 
@@ -74,13 +69,13 @@ pub fresh_wired : (ns : List ℕ) (cells lists : ℕ) (free : Chain) → length 
     → free.first ≡ 0 → free.last ≡ cells - 1 → free.count ≡ cells → Wired ns (free ∷ replicate lists no_chain)
 fresh_wired ns cells lists free len steps e_first e_last e_count = record { once = once; ended = ended; filled = filled }
   where
-    is_up : nodes ns free ≡ up 0 cells
+    is_up : nodes ns free ≡ range_with_len 0 cells
     is_up = ap (λ (s : ℕ). walk ns s free.count) e_first ∙ ap (walk ns 0) e_count ∙ walk_up ns 0 cells (λ k a b. steps k (omega arith))
 
     none : (k : ℕ) → sum_of (occ k) (table ns (replicate lists no_chain)) ≡ 0
     none k = ap (sum_of (occ k)) (blank_map (nodes ns) no_chain lists) ∙ blank_sum (occ k) [] lists refl
 
-    of : (k : ℕ) → (k < cells) ⊎ (cells ≤ k) → occ k (up 0 cells) ≡ cond (ltb k (length ns)) 1 0
+    of : (k : ℕ) → (k < cells) ⊎ (cells ≤ k) → occ k (range_with_len 0 cells) ≡ cond (ltb k (length ns)) 1 0
     of k (inl h) = up_in k 0 cells (omega arith) (omega arith) ∙ sym (ap (λ (b : Bool). cond b 1 0) (lt-ltb k (length ns) (omega arith)))
     of k (inr h) = up_past k 0 cells (omega arith) ∙ sym (ap (λ (b : Bool). cond b 1 0) (le-ltb k (length ns) (omega arith)))
 
@@ -88,7 +83,7 @@ fresh_wired ns cells lists free len steps e_first e_last e_count = record { once
     once k = omega (arith, none k, ap (occ k) is_up, of k (cases_lt k cells))
 
     ended : Ended ns (free ∷ replicate lists no_chain)
-    ended zero d h = ap (last_of free.last) is_up ∙ ap (λ (l : ℕ). last_of l (up 0 cells)) e_last ∙ fresh_end cells ∙ sym e_last
+    ended zero d h = ap (last_of free.last) is_up ∙ ap (λ (l : ℕ). last_of l (range_with_len 0 cells)) e_last ∙ fresh_end cells ∙ sym e_last
     ended (suc c) d h = subst (Ends ns) (sym (get_or-replicate lists c no_chain d (omega (arith, length-replicate lists no_chain)))) refl
 
     filled : Filled ns (free ∷ replicate lists no_chain)

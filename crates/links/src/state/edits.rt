@@ -91,6 +91,7 @@ impl Links {
         ensures state { lists self.new ≡ replicate (length (lists self.old)) [] }
         ensures same { cells self.new ≡ cells self.old }
     {
+        // By number, since all chains are in order after each `clear`, and one that is being walked is lent.
         for list in 0..self.chains.len() {
             let _ = self.clear(list);
         }
@@ -103,6 +104,7 @@ impl Links {
         ensures state { lists self.new ≡ (if result then slice_set (slice_set (lists self.old) to (list_at self.old to ++ list_at self.old from)) from [] else lists self.old) }
         ensures same { cells self.new ≡ cells self.old }
     {
+        // By number, since a slice lends one chain at a time to be changed, and both change here.
         if to >= self.chains.len() || from >= self.chains.len() || to == from {
             return false;
         }

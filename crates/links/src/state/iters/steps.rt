@@ -31,12 +31,9 @@ impl Iterator for LinkIter<'_> {
     ghost remaining = { λ s. at_most (length (rest s)) };
 
     fn next(&mut self) -> Option<Link> {
-        if self.left == 0 {
-            return None;
-        }
+        self.left = self.left.checked_sub(1)?;
         let cell = self.owner.cells[self.cell];
         self.cell = cell.next;
-        self.left -= 1;
         Some(cell.link)
     }
 }

@@ -11,10 +11,7 @@ loop-list-preserved c =
       c.clear.ensures.same ∙ c.loop-list.invariant.1,
     )
 
-pub returns : goal.returns
-returns c =
+pub returns-clause-state : goal.returns-clause-state
+returns-clause-state c =
     let s = c.args.self.now in
-    record {
-      state = reached_all (lists s) (lists c.loop-list.self) [] c.loop-list.list (omega (arith, lists_length s)) c.loop-list.invariant.0;
-      same = c.loop-list.invariant.1;
-    }
+    reached_all (lists s) (lists c.loop-list.self) [] c.loop-list.list (omega (arith, lists_length s)) c.loop-list.invariant.0

@@ -1,27 +1,33 @@
 use Rattle.std.proofs.Common.{length, ap, arith, rules}
+use Rattle.std.proofs.iter.Next.{firm}
 use Rattle.links.specs.Rest.{rest}
 use Rattle.links.proofs.Step.{none_left, step_is, step_inside}
 use Rattle.links.proofs.state.iters.steps.LinkIterIterator.next.Goals as goal
-use Rattle.std.proofs.iter.Next.{firm}
 
-pub returns-then-self-eq0 : goal.returns-then-self-eq0
+pub returns-in_err-self-clause-steps : goal.returns-in_err-self-clause-steps
 unfolding rest
-returns-then-self-eq0 c =
+returns-in_err-self-clause-steps c =
     let w = c.args.self.now in
-    let e = none_left w.owner.now w.cell w.left c.if-self-eq0.true in
-    record { steps = (e, e); goes = firm (tt) (λ h. search rules) }
+    let e = none_left w.owner.now w.cell w.left (omega (arith, c.in_err-self.ensures)) in
+    rw c.from_residual.ensures (e, e)
 
 pub index-cell-requires : goal.index-cell-requires
-index-cell-requires c = c.args.self.now.inside 0 (omega arith)
+index-cell-requires c = c.args.self.now.inside 0 (omega (arith, c.in_ok-self.ensures.0))
 
 pub invariant_of-self : goal.invariant_of-self
 invariant_of-self c =
     let w = c.args.self.now in
-    record { inside = step_inside w.owner.now w.cell w.left c.index-cell.result.now (omega arith) w.inside c.index-cell.ensures }
+    record { inside = step_inside w.owner.now w.cell w.left c.in_ok-self.field-0 c.index-cell.result.now (omega (arith, c.in_ok-self.ensures.0, c.in_ok-self.ensures.1)) w.inside c.index-cell.ensures }
 
-pub returns : goal.returns
+pub returns-clause-steps : goal.returns-clause-steps
 unfolding rest
-returns c =
+returns-clause-steps c =
     let w = c.args.self.now in
-    let e = step_is w.owner.now w.cell w.left c.index-cell.result.now (omega arith) (w.inside 0 (omega arith)) c.index-cell.ensures in
-    record { steps = e; goes = firm ((tt, tt, omega (arith, ap length e))) (λ h. search rules) }
+    step_is w.owner.now w.cell w.left c.in_ok-self.field-0 c.index-cell.result.now (omega (arith, c.in_ok-self.ensures.0, c.in_ok-self.ensures.1)) w.inside c.index-cell.ensures
+
+pub returns-clause-goes : goal.returns-clause-goes
+unfolding rest
+returns-clause-goes c =
+    let w = c.args.self.now in
+    let e = step_is w.owner.now w.cell w.left c.in_ok-self.field-0 c.index-cell.result.now (omega (arith, c.in_ok-self.ensures.0, c.in_ok-self.ensures.1)) w.inside c.index-cell.ensures in
+    firm ((tt, tt, omega (arith, ap length e))) (λ h. search rules)
