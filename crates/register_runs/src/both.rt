@@ -1,4 +1,6 @@
 // Both registers, made with the same capacity and asked the same calls.
+ghost use Rattle.std.specs.Iterator.{IsFinite};
+
 use crate::call::{Answer, Call, play};
 use crate::tally::Tally;
 use register_list::ListRegister;
@@ -52,9 +54,15 @@ impl Both {
         Ok(())
     }
 
-    pub(crate) fn ask_all(&mut self, calls: &[Call]) -> Result<(), Difference> {
+    pub(crate) fn ask_all<I: Iterator<Item = Call> + Drop>(
+        &mut self,
+        calls: I,
+    ) -> Result<(), Difference>
+        requires can { I.can_next calls }
+        requires ends { IsFinite (I.remaining calls) }
+    {
         for call in calls {
-            self.ask(*call)?;
+            self.ask(call)?;
         }
         Ok(())
     }

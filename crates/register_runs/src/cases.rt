@@ -10,17 +10,15 @@ const LARGEST: ObjIdx = ObjIdx(usize::MAX);
 // Makes the calls of new registers.
 fn fresh(heap: Global, capacity: usize, cells: usize, calls: &[Call]) -> Result<Tally, Stop> {
     let mut both = Both::new(heap, capacity, cells)?;
-    both.ask_all(calls)?;
+    both.ask_all(calls.iter().copied())?;
     Ok(both.tally())
 }
 
 // As many pairs as the capacity, one more, a held one again, and one struck for another.
 pub(crate) fn exactly_full(heap: Global) -> Result<Tally, Stop> {
     let mut both = Both::new(heap, 8, 9)?;
-    for i in 0..8u64 {
-        both.ask(Call::Enter(i, ObjIdx(i as usize)))?;
-    }
-    both.ask_all(&[
+    both.ask_all((0..8u64).map(|i| Call::Enter(i, ObjIdx(i as usize))))?;
+    both.ask_all([
         Call::Capacity,
         Call::Enter(8, ObjIdx(8)),
         Call::Enter(3, ObjIdx(4)),
@@ -32,7 +30,8 @@ pub(crate) fn exactly_full(heap: Global) -> Result<Tally, Stop> {
         Call::Enter(9, ObjIdx(9)),
         Call::Next(5, ObjIdx(0)),
         Call::Next(8, ObjIdx(0)),
-    ])?;
+    ]
+    .into_iter())?;
     Ok(both.tally())
 }
 
@@ -76,18 +75,10 @@ pub(crate) fn capacity_one(heap: Global) -> Result<Tally, Stop> {
 // Many numbers under one hash, entered downwards and read upwards.
 pub(crate) fn equal_hashes(heap: Global) -> Result<Tally, Stop> {
     let mut both = Both::new(heap, 100, 128)?;
-    for i in (0..100).rev() {
-        both.ask(Call::Enter(77, ObjIdx(2 * i)))?;
-    }
-    for from in 0..200 {
-        both.ask(Call::Next(77, ObjIdx(from)))?;
-    }
-    for i in 0..50 {
-        both.ask(Call::Strike(77, ObjIdx(4 * i)))?;
-    }
-    for from in 0..200 {
-        both.ask(Call::Next(77, ObjIdx(from)))?;
-    }
+    both.ask_all((0..100).rev().map(|i| Call::Enter(77, ObjIdx(2 * i))))?;
+    both.ask_all((0..200).map(|from| Call::Next(77, ObjIdx(from))))?;
+    both.ask_all((0..50).map(|i| Call::Strike(77, ObjIdx(4 * i))))?;
+    both.ask_all((0..200).map(|from| Call::Next(77, ObjIdx(from))))?;
     Ok(both.tally())
 }
 

@@ -74,10 +74,7 @@ fn compare(rt: &HostRuntime) -> anyhow::Result<()> {
 fn wants_long(rt: &HostRuntime) -> anyhow::Result<bool> {
     let mut args = env::args(rt)?;
     let _ = args.next();
-    match args.next() {
-        Some(word) => Ok(word.as_str() == "long"),
-        None => Ok(false),
-    }
+    Ok(args.next().is_some_and(|word| word.as_str() == "long"))
 }
 
 fn run(rt: &HostRuntime) -> anyhow::Result<()> {

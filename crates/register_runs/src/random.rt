@@ -50,9 +50,7 @@ impl Random {
 fn sweep(both: &mut Both, ranges: &Ranges) -> Result<(), Difference> {
     for i in 0..ranges.hashes {
         let hash = ranges.first_hash.wrapping_add(i);
-        for number in 0..ranges.numbers {
-            both.ask(Call::Next(hash, ObjIdx(number as usize)))?;
-        }
+        both.ask_all((0..ranges.numbers).map(|number| Call::Next(hash, ObjIdx(number as usize))))?;
     }
     Ok(())
 }
@@ -60,6 +58,7 @@ fn sweep(both: &mut Both, ranges: &Ranges) -> Result<(), Difference> {
 pub(crate) fn random_calls(heap: Global, ranges: &Ranges) -> Result<Tally, Stop> {
     let mut both = Both::new(heap, ranges.capacity, ranges.cells)?;
     let mut random = Random(0x2545_f491_4f6c_dd1d);
+    // Each call changes the state that the next is drawn from, so the calls are a loop and no chain.
     for _ in 0..CALLS {
         both.ask(random.call(ranges))?;
     }

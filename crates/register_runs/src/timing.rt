@@ -32,7 +32,8 @@ fn strike_nth<R: Register>(register: &mut R, i: u64) {
     register.strike(hash, number);
 }
 
-// Strikes the oldest pair and enters a new one, again and again; answers how many were declined.
+// Strikes the oldest pair and enters a new one, again and again; answers how many were declined. Each turn changes the
+// register, so the turns are a loop and no chain.
 fn stretch<R: Register>(register: &mut R, first: u64) -> u64 {
     let mut declined: u64 = 0;
     for turn in 0..TURNS {
