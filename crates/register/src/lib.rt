@@ -46,6 +46,7 @@ pub fn least_where<R: Register, F: Fn(ObjIdx) -> bool>(
     requires { (m : ObjIdx) → m.0 < end.0 → F.pre test m }
     ensures answer { LeastWhere (R.Register.holds register.now) hash end.0 (F.post test) result }
 {
+    // Where the search goes on is known from what it found, so it is a loop and no iterator.
     let mut from = ObjIdx(0);
     while let Some(number) = register.next(hash, from) {
         if number >= end {

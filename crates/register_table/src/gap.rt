@@ -17,6 +17,7 @@ pub(crate) fn vacate(cells: &mut [Option<Entry>], start: usize)
     ensures reached { (k : ℕ) → Reached cells.new k }
 {
     let size = cells.len();
+    // The cells are written while the walk reads them, so it is a loop and no iterator.
     let mut gap = start;
     let mut at = following(start, size);
     while let Some(e) = cells[at] {

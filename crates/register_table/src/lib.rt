@@ -1,6 +1,6 @@
 // A register that is a table with linear probing: the search for a pair begins at the cell of its hash and goes from
 // cell to cell, up to the pair or to a free cell. A cell is full only for a pair that is held, so that a search takes
-// no step for what was struck.
+// no step for what was struck. All memory is taken when it is made, so the cells are no map, which allocates at an entry.
 #![tactic(auto)]
 
 ghost use Rattle.std.specs.Prelude.{◌≡◌, ℕ, ◌<◌, ◌≤◌, vec_len};

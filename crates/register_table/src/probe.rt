@@ -1,4 +1,7 @@
-// The search for a hash: it begins at the home of the hash, and goes from cell to cell up to a free one.
+// The search for a hash: it begins at the home of the hash, and goes from cell to cell up to a free one. The two
+// searches walk the same way, but `seek` stops at a cell and answers its place, also where that is the free one, and
+// `least` reads every entry and answers a number: one walk for both would hand a closure the place and the entry, and
+// take from it a value and whether to stop, which is no plainer than the loops.
 ghost use Rattle.std.specs.Prelude.{◌≡◌, ℕ, ◌<◌, length};
 ghost use Rattle.register.specs.Pairs.{Next, pairs_of};
 ghost use Rattle.register_table.specs.Cells.{entries, filled, Reached, Sought, better};
