@@ -23,8 +23,8 @@ struct ObjectLinks<'a> {
     links: LinkIter<'a>,
 }
 
-// The links of all objects, by the objects' numbers. The type is an iterator of its own and no `flat_map`, since
-// the type of one has no name that a function could return.
+// The links of all objects, by the objects' numbers. It is no `flatten`, which asks, wherever it is run, for a bound
+// on how many links each object has.
 #[derive(Drop)]
 pub(crate) struct PackedLinks<'a> {
     objects: &'a Objects,
@@ -35,7 +35,7 @@ pub(crate) struct PackedLinks<'a> {
 }
 
 impl<'a> Measure<'a> {
-    // The links of all packed objects, of none of which anything is passed yet.
+    // The links of all packed objects, with every link still to come.
     pub(crate) fn links(&self) -> PackedLinks<'a>
         ensures answer { left result ≡ placed_from 0 (packed self.now) }
     {

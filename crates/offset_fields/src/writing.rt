@@ -28,7 +28,8 @@ fn largest_of(width: LinkWidth, is_signed: bool) -> usize
     if is_signed { unsigned / 2 } else { unsigned }
 }
 
-// Writes a number in as many bytes as the width has, exactly if they have room there.
+// Writes a number in as many bytes as the width has, exactly if they have room there. There is one way to fail, so
+// that a bool says it, as for `put_bytes`.
 fn write_number(memory: &mut [u8], at: usize, width: LinkWidth, number: u32) -> bool
     ensures answer { result ≡ room memory.old at (bytes_of_width width) }
     ensures state { memory.new ≡ (if result then write memory.old at (big_endian (bytes_of_width width) number) else memory.old) }
