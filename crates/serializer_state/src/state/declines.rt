@@ -3,6 +3,7 @@ ghost use Rattle.std.specs.Prelude.{◌≡◌};
 ghost use Rattle.cursor.specs.Flags.{joined, none, other};
 ghost use Rattle.model.specs.Declining.{set_err as joins, idle as is_idle, nothing_open};
 ghost use Rattle.model.specs.State.{flag};
+ghost use Rattle.serializer_state.specs.Declines.{changeable, ready, required, found};
 ghost use Rattle.serializer_state.specs.View.{view};
 
 use super::SerializerState;
@@ -18,6 +19,14 @@ impl SerializerState {
         self.flags.set_err(flags)
     }
 
+    // Joins OTHER to the flags that stand, and answers all of them.
+    pub fn other(&mut self) -> SerializeErrorFlags
+        ensures answer { result ≡ joined (view self.old).flags other }
+        ensures state { view self.new ≡ flag (view self.old) other }
+    {
+        self.flag(SerializeErrorFlags::SERIALIZE_ERROR_OTHER)
+    }
+
     // What an ended serializer answers in place of changing: its flags with OTHER.
     pub fn refusal(&self) -> SerializeErrorFlags
         ensures answer { result ≡ joined (view self.now).flags other }
@@ -26,12 +35,55 @@ impl SerializerState {
         flags.set_err(SerializeErrorFlags::SERIALIZE_ERROR_OTHER)
     }
 
+    #[tactic(auto, using(crate::proofs::Flag::joined_none))]
     // What a call that a flag declines answers in place of changing: the flags, with none joined to them.
     pub fn standing(&self) -> SerializeErrorFlags
         ensures answer { result ≡ joined (view self.now).flags none }
         ensures same { view self.now ≡ flag (view self.now) none }
     {
         self.flags
+    }
+
+    // The test of each call that changes anything: an ended serializer is not changed.
+    pub fn changeable(&self) -> Result<(), SerializeErrorFlags>
+        ensures answer { result ≡ changeable (view self.now) }
+    {
+        if self.ended {
+            return Err(self.refusal());
+        }
+        Ok(())
+    }
+
+    #[tactic(auto, using(crate::proofs::Flag::joined_none))]
+    // The test of a call that builds: nor is one under a flag.
+    pub fn ready(&self) -> Result<(), SerializeErrorFlags>
+        ensures answer { result ≡ ready (view self.now) }
+        ensures same { view self.now ≡ flag (view self.now) none }
+    {
+        self.changeable()?;
+        if self.flags.in_error() {
+            return Err(self.standing());
+        }
+        Ok(())
+    }
+
+    // The test of what a call needs: where it does not hold, OTHER stands and the call is declined.
+    pub fn required(&mut self, holds: bool) -> Result<(), SerializeErrorFlags>
+        ensures answer { result ≡ (required holds (view self.old)).1 }
+        ensures state { view self.new ≡ (required holds (view self.old)).0 }
+    {
+        if holds { Ok(()) } else { Err(self.other()) }
+    }
+
+    // What a call looks for: where there is none, OTHER stands and the call is declined.
+    pub fn found<T>(&mut self, part: Option<T>) -> Result<T, SerializeErrorFlags>
+        ensures answer { result ≡ (found part (view self.old)).1 }
+        ensures state { view self.new ≡ (found part (view self.old)).0 }
+    {
+        match part {
+            Some(part) => Ok(part),
+            None => Err(self.other()),
+        }
     }
 
     // Whether nothing is closed, discarded or reverted: it is ended, or a hard flag stands.
