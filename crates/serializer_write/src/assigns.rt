@@ -17,24 +17,18 @@ fn ends_by_tail(s: &SerializerState, at: usize, size: usize) -> bool
     size <= tail && at <= tail - size
 }
 
-fn assign(s: &mut SerializerState, at: usize, bytes: &[u8])
+// Assigns bytes from a place on, which must end at or before tail.
+pub fn copy_assign_from_bytes(s: &mut SerializerState, at: usize, bytes: &[u8])
     ensures state { view s.new ≡ copy_assign_from_bytes at bytes.now (view s.old) }
 {
     if s.ended {
         return;
     }
     if !ends_by_tail(s, at, bytes.len()) {
-        let _ = s.flag(SerializeErrorFlags::SERIALIZE_ERROR_OTHER);
+        let _ = s.other();
         return;
     }
     let _ = s.put(at, bytes);
-}
-
-// Assigns bytes from a place on, which must end at or before tail.
-pub fn copy_assign_from_bytes(s: &mut SerializerState, at: usize, bytes: &[u8])
-    ensures state { view s.new ≡ copy_assign_from_bytes at bytes.now (view s.old) }
-{
-    assign(s, at, bytes)
 }
 
 // Assigns a scalar from a place on, which must end at or before tail.
@@ -43,7 +37,7 @@ pub fn copy_assign<S: Scalar>(s: &mut SerializerState, at: usize, value: S)
     ensures fits { S.Scalar.fits value }
 {
     let raw = value.raw();
-    assign(s, at, &raw[0..S::size()])
+    copy_assign_from_bytes(s, at, &raw[..S::size()])
 }
 
 // Assigns a count from a place on; one that the scalar cannot hold sets the flags that the caller names.
@@ -56,9 +50,7 @@ pub fn check_assign<S: CountScalar>(
     ensures answer { result ≡ (check_assign at (option_map S.Scalar.bytes (if nat_le count S.CountScalar.most then Some (S.CountScalar.counting count) else None)) flags (view s.old)).1 }
     ensures state { view s.new ≡ (check_assign at (option_map S.Scalar.bytes (if nat_le count S.CountScalar.most then Some (S.CountScalar.counting count) else None)) flags (view s.old)).0 }
 {
-    if s.ended {
-        return Err(s.refusal());
-    }
+    s.changeable()?;
     let Some(value) = S::from_count(count) else {
         return Err(s.flag(flags));
     };

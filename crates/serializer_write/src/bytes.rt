@@ -1,5 +1,5 @@
 // Bytes taken at head: as they are, cleared, or written.
-ghost use Rattle.std.specs.Prelude.{◌≡◌, true};
+ghost use Rattle.std.specs.Prelude.{◌≡◌};
 ghost use Rattle.model.specs.Writing.{allocate_size, pad as padded, embed_bytes, embed as embedded};
 ghost use Rattle.serializer_state.specs.View.{view};
 
@@ -12,18 +12,12 @@ pub fn pad(s: &mut SerializerState, size: usize) -> Result<usize, SerializeError
     ensures answer { result ≡ (padded size (view s.old)).1 }
     ensures state { view s.new ≡ (padded size (view s.old)).0 }
 {
-    if s.ended {
-        return Err(s.refusal());
+    s.ready()?;
+    // Written out, since no proof knows what a closure in map_err did to the serializer that it held.
+    match s.cursor.advance(size) {
+        Ok(at) => Ok(at),
+        Err(flags) => Err(s.flag(flags)),
     }
-    if s.flags.in_error() {
-        return Err(s.standing());
-    }
-    if s.cursor.room() < size {
-        return Err(s.flag(SerializeErrorFlags::SERIALIZE_ERROR_OUT_OF_ROOM));
-    }
-    let at = s.cursor.head;
-    s.cursor.head = at + size;
-    Ok(at)
 }
 
 // Takes so many bytes at head, cleared if told, and answers where they start.
@@ -35,36 +29,11 @@ pub fn allocate_size(
     ensures answer { result ≡ (allocate_size size clear (view s.old)).1 }
     ensures state { view s.new ≡ (allocate_size size clear (view s.old)).0 }
 {
-    if !clear {
-        return pad(s, size);
+    let at = pad(s, size)?;
+    if clear {
+        let _ = s.clear(at, size);
     }
-    take_cleared(s, size)
-}
-
-fn take_cleared(s: &mut SerializerState, size: usize) -> Result<usize, SerializeErrorFlags>
-    ensures answer { result ≡ (allocate_size size true (view s.old)).1 }
-    ensures state { view s.new ≡ (allocate_size size true (view s.old)).0 }
-{
-    match pad(s, size) {
-        Ok(at) => {
-            let _ = s.clear(at, size);
-            Ok(at)
-        }
-        Err(flags) => Err(flags),
-    }
-}
-
-fn append(s: &mut SerializerState, bytes: &[u8]) -> Result<usize, SerializeErrorFlags>
-    ensures answer { result ≡ (embed_bytes bytes.now (view s.old)).1 }
-    ensures state { view s.new ≡ (embed_bytes bytes.now (view s.old)).0 }
-{
-    match pad(s, bytes.len()) {
-        Ok(at) => {
-            let _ = s.put(at, bytes);
-            Ok(at)
-        }
-        Err(flags) => Err(flags),
-    }
+    Ok(at)
 }
 
 // Writes bytes at head, and answers where they start.
@@ -72,7 +41,9 @@ pub fn embed_bytes(s: &mut SerializerState, bytes: &[u8]) -> Result<usize, Seria
     ensures answer { result ≡ (embed_bytes bytes.now (view s.old)).1 }
     ensures state { view s.new ≡ (embed_bytes bytes.now (view s.old)).0 }
 {
-    append(s, bytes)
+    let at = pad(s, bytes.len())?;
+    let _ = s.put(at, bytes);
+    Ok(at)
 }
 
 // Writes a scalar at head, and answers where it starts.
@@ -82,5 +53,5 @@ pub fn embed<S: Scalar>(s: &mut SerializerState, value: S) -> Result<usize, Seri
     ensures fits { S.Scalar.fits value }
 {
     let raw = value.raw();
-    append(s, &raw[0..S::size()])
+    embed_bytes(s, &raw[..S::size()])
 }

@@ -64,8 +64,8 @@ pub fn allocated(s: &SerializerState) -> usize
 pub fn length(s: &SerializerState) -> usize
     ensures answer { result ≡ open_length (view s.now) }
 {
-    match s.objects.outline(Which::Innermost) {
-        Some(object) => s.cursor.head.saturating_sub(object.extent.head),
-        None => 0,
-    }
+    s.objects.outline(Which::Innermost).map_or(
+        0,
+        |object| s.cursor.head.saturating_sub(object.extent.head),
+    )
 }

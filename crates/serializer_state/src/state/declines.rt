@@ -35,8 +35,8 @@ impl SerializerState {
         flags.set_err(SerializeErrorFlags::SERIALIZE_ERROR_OTHER)
     }
 
-    #[tactic(auto, using(crate::proofs::Flag::joined_none))]
     // What a call that a flag declines answers in place of changing: the flags, with none joined to them.
+    #[tactic(auto, using(crate::proofs::Flag::joined_none))]
     pub fn standing(&self) -> SerializeErrorFlags
         ensures answer { result ≡ joined (view self.now).flags none }
         ensures same { view self.now ≡ flag (view self.now) none }
@@ -54,8 +54,8 @@ impl SerializerState {
         Ok(())
     }
 
-    #[tactic(auto, using(crate::proofs::Flag::joined_none))]
     // The test of a call that builds: nor is one under a flag.
+    #[tactic(auto, using(crate::proofs::Flag::joined_none))]
     pub fn ready(&self) -> Result<(), SerializeErrorFlags>
         ensures answer { result ≡ ready (view self.now) }
         ensures same { view self.now ≡ flag (view self.now) none }

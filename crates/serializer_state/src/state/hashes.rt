@@ -13,8 +13,8 @@ use objects::{Extent, Which};
 use std::hash::Hasher;
 
 impl SerializerState {
-    #[tactic(auto, unfolding(model::specs::Closing::hash))]
     // The hash of the bytes at an extent and of the real links of an object.
+    #[tactic(auto, unfolding(model::specs::Closing::hash))]
     pub fn hash_of(&self, which: Which, at: Extent) -> u64
         ensures answer { result ≡ hashed (part (view self.now).memory at.head at.tail) (real_of (chosen which (contents self.now.objects))) }
     {
