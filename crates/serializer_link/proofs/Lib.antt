@@ -1,4 +1,3 @@
-mod Tests
 mod Open
 mod Joined
 mod Added

@@ -1,2 +1,3 @@
 pub mod Range
+pub mod Added
 pub mod Order

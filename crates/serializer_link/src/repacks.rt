@@ -2,23 +2,24 @@
 ghost use Rattle.std.specs.Prelude.{◌≡◌, length};
 ghost use Rattle.model.specs.Linking.{repacking, repack_last, open_links, last_added_child_index};
 ghost use Rattle.serializer_state.specs.View.{view};
-ghost use Rattle.serializer_link.specs.Order.{order as ordered, orders};
+ghost use Rattle.serializer_link.specs.Order.{order as ordered};
 
 use cursor::flags::SerializeErrorFlags;
 use link::{Link, ObjIdx};
 use objects::Which;
 use serializer_state::SerializerState;
 
-// Orders the child of a link before an object, unless it is that object: false where the child is not
+// Orders the child of a link before an object, unless it is that object: declined where the child is not
 // packed, or no cell is free.
-fn order(s: &mut SerializerState, link: Link, objidx: ObjIdx) -> bool
-    ensures answer { result ≡ orders objidx link (view s.old) }
-    ensures state { view s.new ≡ ordered objidx link (view s.old) }
+fn order(s: &mut SerializerState, link: Link, objidx: ObjIdx) -> Result<(), SerializeErrorFlags>
+    ensures answer { result ≡ (ordered objidx link (view s.old)).1 }
+    ensures state { view s.new ≡ (ordered objidx link (view s.old)).0 }
 {
-    if link.objidx.0 == objidx.0 {
-        return true;
+    if link.objidx == objidx {
+        return Ok(());
     }
-    s.objects.add_virtual_to(link.objidx, objidx)
+    let ordered = s.objects.add_virtual_to(link.objidx, objidx);
+    s.required(ordered)
 }
 
 // Orders each child before an object, up to the first that cannot be.
@@ -31,12 +32,10 @@ fn order_all(
     ensures answer { result ≡ (repacking objidx (open_links (view s.old)) (view s.old)).1 }
     ensures state { view s.new ≡ (repacking objidx (open_links (view s.old)) (view s.old)).0 }
 {
+    // By number, since each child that is ordered changes the objects, over which an iterator would hold a borrow.
     for i in 0..count {
-        let Some(link) = s.objects.real_link(Which::Innermost, i) else {
-            return Ok(());
-        };
-        if !order(s, link, objidx) {
-            return Err(s.flag(SerializeErrorFlags::SERIALIZE_ERROR_OTHER));
+        if let Some(link) = s.objects.real_link(Which::Innermost, i) {
+            order(s, link, objidx)?;
         }
     }
     Ok(())
@@ -48,12 +47,9 @@ pub fn repack_last(s: &mut SerializerState, objidx: ObjIdx) -> Result<(), Serial
     ensures answer { result ≡ (repack_last objidx (view s.old)).1 }
     ensures state { view s.new ≡ (repack_last objidx (view s.old)).0 }
 {
-    if s.ended {
-        return Err(s.refusal());
-    }
-    let Some(object) = s.objects.outline(Which::Innermost) else {
-        return Err(s.flag(SerializeErrorFlags::SERIALIZE_ERROR_OTHER));
-    };
+    s.changeable()?;
+    let innermost = s.objects.outline(Which::Innermost);
+    let object = s.found(innermost)?;
     order_all(s, objidx, object.num_real_links)
 }
 

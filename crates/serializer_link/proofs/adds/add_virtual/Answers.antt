@@ -1,10 +1,10 @@
-use Rattle.objects.specs.Change.{linked_virtual}
+use Rattle.std.proofs.Common.{ap, ◌∙◌}
+use Rattle.model.specs.Linking.{extend_virtual}
 use Rattle.objects.specs.Contents.{contents}
-use Rattle.serializer_link.proofs.Joined.{joined}
+use Rattle.serializer_link.proofs.Joined.{Answered, joined_open}
 use Rattle.serializer_link.proofs.adds.add_virtual.Goals as goal
 
 pub returns : goal.returns
 returns c =
-    let s = c.args.s.now in
-    let j = joined s c.add_virtual.result (linked_virtual c.args.objidx (contents s.objects)) (contents c.add_virtual.new.self) c.add_virtual.ensures.answer c.add_virtual.ensures.state in
-    record { answer = j.answer; state = j.state }
+    let e = joined_open c.args.s.now c.add_virtual-ordered.result (extend_virtual c.args.objidx) (contents c.add_virtual-ordered.new.self) c.add_virtual-ordered.ensures.answer c.add_virtual-ordered.ensures.state in
+    record { answer = c.required.ensures.answer ∙ ap (λ (q : Answered). q.1) e; state = c.required.ensures.state ∙ ap (λ (q : Answered). q.0) e }

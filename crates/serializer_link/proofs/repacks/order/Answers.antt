@@ -10,6 +10,6 @@ invariant_of-s c =
     let n = vec_len s.memory in
     record {
       sized = s.sized;
-      inside = ap (λ (k : Contents). within n k.opened) c.add_virtual_to.ensures.state ∙ kept_inside n _ _ _ (contents s.objects) ∙ s.inside;
-      lies = ap (λ (k : Contents). lying n k.packed) c.add_virtual_to.ensures.state ∙ kept_lies n _ _ _ (contents s.objects) ∙ s.lies;
+      inside = ap (λ (k : Contents). within n k.opened) c.add_virtual_to-ordered.ensures.state ∙ kept_inside n _ _ _ (contents s.objects) ∙ s.inside;
+      lies = ap (λ (k : Contents). lying n k.packed) c.add_virtual_to-ordered.ensures.state ∙ kept_lies n _ _ _ (contents s.objects) ∙ s.lies;
     }
