@@ -9,7 +9,6 @@ ghost use Rattle.objects.specs.Change.{first};
 ghost use Rattle.serializer_state.specs.View.{view};
 ghost use Rattle.serializer_rewind.specs.Left.{left_from};
 
-use cursor::flags::SerializeErrorFlags;
 use link::ObjIdx;
 use objects::{Extent, Which};
 use register::Register;
@@ -27,10 +26,9 @@ fn discard_below<R: Register>(s: &mut SerializerState, tail: usize, register: &m
     ensures state { view s.new ≡ left_from tail (view s.old) (R.Register.holds register.old) }
     ensures register { R.Register.holds register.new ≡ (discard (view s.old).memory tail (view s.old).packed (view s.old).pool (R.Register.holds register.old)).register }
 {
-    while let Some(last) = s.objects.outline(Which::LastPacked) {
-        if last.extent.head >= tail {
-            return;
-        }
+    while let Some(last) = s.objects.outline(Which::LastPacked)
+        && last.extent.head < tail
+    {
         let hash = last_hash(s, last.extent);
         let number = ObjIdx(s.objects.packed_count() - 1);
         s.objects.unpack();
@@ -42,20 +40,18 @@ fn discard_below<R: Register>(s: &mut SerializerState, tail: usize, register: &m
 fn edge_of(s: &SerializerState) -> usize
     ensures answer { result ≡ edge (view s.now) }
 {
-    match s.objects.outline(Which::LastPacked) {
-        Some(last) => last.extent.head,
-        None => s.memory.len(),
-    }
+    s.objects
+        .outline(Which::LastPacked)
+        .map_or(s.memory.len(), |last| last.extent.head)
 }
 
 // Joins OTHER where tail stands elsewhere than at the edge.
 fn check_edge(s: &mut SerializerState)
     ensures state { view s.new ≡ on_edge (view s.old) }
 {
-    if edge_of(s) == s.cursor.tail {
-        return;
+    if edge_of(s) != s.cursor.tail {
+        let _ = s.other();
     }
-    let _ = s.flag(SerializeErrorFlags::SERIALIZE_ERROR_OTHER);
 }
 
 // Whether the rewind is left out: a flag stands, or head is below its target, or tail above it.

@@ -1,6 +1,6 @@
 // Snapshots taken and reverted to.
-ghost use Rattle.std.specs.Prelude.{◌≡◌};
-ghost use Rattle.model.specs.Rewinding.{same_slot, open_slot, real_count, virtual_count, snapshot as recorded, revert_snapshot};
+ghost use Rattle.std.specs.Prelude.{◌≡◌, not};
+ghost use Rattle.model.specs.Rewinding.{same_slot, open_slot, snapshot as recorded, revert_snapshot};
 ghost use Rattle.serializer_state.specs.View.{view};
 ghost use Rattle.serializer_rewind.specs.Left.{stale as is_stale, restored};
 
@@ -12,60 +12,34 @@ use objects::{Extent, Which};
 use register::Register;
 use serializer_state::SerializerState;
 
-// The slot of the innermost object, if one is open, and how many links it has.
-fn innermost(s: &SerializerState) -> (Option<PoolIdx>, usize, usize)
-    ensures slot { result.0 ≡ open_slot (view s.now) }
-    ensures real { result.1 ≡ real_count (view s.now).opened }
-    ensures ties { result.2 ≡ virtual_count (view s.now).opened }
-{
-    match s.objects.outline(Which::Innermost) {
-        Some(object) => (
-            Some(object.slot),
-            object.num_real_links,
-            object.num_virtual_links,
-        ),
-        None => (None, 0, 0),
-    }
-}
-
 // Records where the serializer stands.
 pub fn snapshot(s: &SerializerState) -> Snapshot
     ensures answer { result ≡ recorded (view s.now) }
 {
-    let (current, num_real_links, num_virtual_links) = innermost(s);
+    let innermost = s.objects.outline(Which::Innermost);
     Snapshot {
         head: s.cursor.head,
         tail: s.cursor.tail,
-        current,
-        num_real_links,
-        num_virtual_links,
+        current: innermost.map(|object| object.slot),
+        num_real_links: innermost.map_or(0, |object| object.num_real_links),
+        num_virtual_links: innermost.map_or(0, |object| object.num_virtual_links),
         errors: s.flags,
     }
 }
 
-// Whether two slots are the same, or both are none.
-fn same(a: Option<PoolIdx>, b: Option<PoolIdx>) -> bool
-    ensures answer { result ≡ same_slot a b }
+// Whether the innermost object has another slot than this one; none is the slot where nothing is open.
+fn moved(s: &SerializerState, current: Option<PoolIdx>) -> bool
+    ensures answer { result ≡ not (same_slot current (open_slot (view s.now))) }
 {
-    match (a, b) {
-        (Some(x), Some(y)) => x.0 == y.0,
-        (None, None) => true,
-        _ => false,
-    }
+    let innermost = s.objects.outline(Which::Innermost);
+    current != innermost.map(|object| object.slot)
 }
 
 // Whether a snapshot is not reverted to: nothing can be, or another slot is open, or its tail is past the end.
 fn stale(s: &SerializerState, current: Option<PoolIdx>, tail: usize) -> bool
     ensures answer { result ≡ is_stale current tail (view s.now) }
 {
-    if s.idle() {
-        return true;
-    }
-    let (slot, _, _) = innermost(s);
-    if !same(current, slot) {
-        return true;
-    }
-    tail > s.memory.len()
+    s.idle() || moved(s, current) || tail > s.memory.len()
 }
 
 // Restores the flags, and cuts the innermost object's links back to so many.

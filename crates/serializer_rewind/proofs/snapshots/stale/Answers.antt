@@ -1,26 +1,29 @@
-use Rattle.std.proofs.Common.{◌≡◌, ℕ, Bool, true, false, not, ◌||◌, ltb, length, sym, ap, ◌∙◌}
-use Rattle.std.proofs.lemmas.Bool.{or_left, or_right}
+use Rattle.std.proofs.Common.{◌≡◌, ℕ, not, ◌||◌, nat_lt, length, inl, inr, sym, ap, ◌∙◌}
 use Rattle.model.specs.Declining.{idle}
 use Rattle.model.specs.Rewinding.{same_slot, open_slot}
 use Rattle.serializer_state.specs.View.{view}
+use Rattle.serializer_rewind.proofs.Any.{two_of, third_spared, third_decides}
 use Rattle.serializer_rewind.proofs.snapshots.stale.Goals as goal
+use Rattle.serializer_rewind.proofs.snapshots.stale.Goals.{then-idle, else-idle}
 
-pub returns-then-idle : goal.returns-then-idle
-returns-then-idle c =
-    let s = view c.args.s.now in
-    record { answer = sym (or_left (idle s) (not (same_slot c.args.current (open_slot s)) || ltb (length s.memory) c.args.tail) (sym c.idle.ensures.answer ∙ c.if-idle.true)) }
+pub returns-then-moved : goal.returns-then-moved
+returns-then-moved c =
+    let v = view c.args.s.now in
+    let i = idle v in
+    let n = not (same_slot c.args.current (open_slot v)) in
+    let e : c.if-idle.value ≡ (i || n) = elim c.if-idle.branch [
+      | then-idle w ↦ two_of i n _ (inl (sym c.idle.ensures.answer ∙ w.if-idle.true, w.value-is ∙ c.idle.ensures.answer))
+      | else-idle w ↦ two_of i n _ (inr (sym c.idle.ensures.answer ∙ w.if-idle.false, w.value-is ∙ w.moved.ensures.answer))
+    ] in
+    record { answer = third_spared i n (nat_lt (length v.memory) c.args.tail) _ e c.if-moved.true }
 
-pub returns-then-not-same : goal.returns-then-not-same
-returns-then-not-same c =
-    let s = view c.args.s.now in
-    let q : same_slot c.args.current (open_slot s) ≡ false = ap (same_slot c.args.current) (sym c.innermost-slot.ensures.slot) ∙ sym c.same.ensures.answer ∙ c.if-not-same.true in
-    record { answer = sym (or_right (idle s) _ (or_left (not (same_slot c.args.current (open_slot s))) (ltb (length s.memory) c.args.tail) (ap not q))) }
-
-pub returns : goal.returns
-returns c =
-    let s = view c.args.s.now in
-    let i : idle s ≡ false = sym c.idle.ensures.answer ∙ c.if-idle.false in
-    let q : same_slot c.args.current (open_slot s) ≡ true = ap (same_slot c.args.current) (sym c.innermost-slot.ensures.slot) ∙ sym c.same.ensures.answer ∙ c.if-not-same.false in
-    record {
-      answer = sym (ap (λ (b : Bool). b || (not (same_slot c.args.current (open_slot s)) || ltb (length s.memory) c.args.tail)) i ∙ ap (λ (b : Bool). not b || ltb (length s.memory) c.args.tail) q ∙ ap (λ (n : ℕ). ltb n c.args.tail) (sym (c.len.ensures ∙ c.args.s.now.memory.ok.0)));
-    }
+pub returns-else-moved : goal.returns-else-moved
+returns-else-moved c =
+    let v = view c.args.s.now in
+    let i = idle v in
+    let n = not (same_slot c.args.current (open_slot v)) in
+    let e : c.if-idle.value ≡ (i || n) = elim c.if-idle.branch [
+      | then-idle w ↦ two_of i n _ (inl (sym c.idle.ensures.answer ∙ w.if-idle.true, w.value-is ∙ c.idle.ensures.answer))
+      | else-idle w ↦ two_of i n _ (inr (sym c.idle.ensures.answer ∙ w.if-idle.false, w.value-is ∙ w.moved.ensures.answer))
+    ] in
+    record { answer = ap (λ (k : ℕ). nat_lt k c.args.tail) (c.len.ensures ∙ c.args.s.now.memory.ok.0) ∙ third_decides i n (nat_lt (length v.memory) c.args.tail) _ e c.if-moved.false }
