@@ -5,7 +5,6 @@ ghost use Rattle.serializer_state.specs.View.{view};
 ghost use Rattle.serializer_rewind.specs.Left.{stale as is_stale, restored};
 
 use crate::rewinds::rewind;
-use cursor::flags::SerializeErrorFlags;
 use link::PoolIdx;
 use model::snapshot::Snapshot;
 use objects::{Extent, Which};
@@ -36,18 +35,19 @@ fn moved(s: &SerializerState, current: Option<PoolIdx>) -> bool
 }
 
 // Whether a snapshot is not reverted to: nothing can be, or another slot is open, or its tail is past the end.
-fn stale(s: &SerializerState, current: Option<PoolIdx>, tail: usize) -> bool
-    ensures answer { result ≡ is_stale current tail (view s.now) }
+fn stale(s: &SerializerState, snapshot: &Snapshot) -> bool
+    ensures answer { result ≡ is_stale snapshot.now.current snapshot.now.tail (view s.now) }
 {
-    s.idle() || moved(s, current) || tail > s.memory.len()
+    s.idle() || moved(s, snapshot.current) || snapshot.tail > s.memory.len()
 }
 
-// Restores the flags, and cuts the innermost object's links back to so many.
-fn restore(s: &mut SerializerState, errors: SerializeErrorFlags, real: usize, ties: usize)
-    ensures state { view s.new ≡ restored errors real ties (view s.old) }
+// Restores the flags, and cuts the innermost object's links back to as many as it had.
+fn restore(s: &mut SerializerState, snapshot: &Snapshot)
+    ensures state { view s.new ≡ restored snapshot.now.errors snapshot.now.num_real_links snapshot.now.num_virtual_links (view s.old) }
 {
-    s.flags = errors;
-    s.objects.cut(real, ties);
+    s.flags = snapshot.errors;
+    s.objects
+        .cut(snapshot.num_real_links, snapshot.num_virtual_links);
 }
 
 // Goes back to where a snapshot was taken.
@@ -55,17 +55,13 @@ pub fn revert_snapshot<R: Register>(s: &mut SerializerState, snapshot: Snapshot,
     ensures state { view s.new ≡ (revert_snapshot snapshot (view s.old) (R.Register.holds register.old)).state }
     ensures register { R.Register.holds register.new ≡ (revert_snapshot snapshot (view s.old) (R.Register.holds register.old)).register }
 {
-    let Snapshot {
-        head,
-        tail,
-        current,
-        num_real_links,
-        num_virtual_links,
-        errors,
-    } = snapshot;
-    if stale(s, current, tail) {
+    if stale(s, &snapshot) {
         return;
     }
-    restore(s, errors, num_real_links, num_virtual_links);
-    rewind(s, Extent { head, tail }, register);
+    restore(s, &snapshot);
+    let to = Extent {
+        head: snapshot.head,
+        tail: snapshot.tail,
+    };
+    rewind(s, to, register);
 }

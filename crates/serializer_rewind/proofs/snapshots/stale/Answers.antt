@@ -10,20 +10,20 @@ pub returns-then-moved : goal.returns-then-moved
 returns-then-moved c =
     let v = view c.args.s.now in
     let i = idle v in
-    let n = not (same_slot c.args.current (open_slot v)) in
+    let n = not (same_slot c.args.snapshot.now.current (open_slot v)) in
     let e : c.if-idle.value ≡ (i || n) = elim c.if-idle.branch [
       | then-idle w ↦ two_of i n _ (inl (sym c.idle.ensures.answer ∙ w.if-idle.true, w.value-is ∙ c.idle.ensures.answer))
       | else-idle w ↦ two_of i n _ (inr (sym c.idle.ensures.answer ∙ w.if-idle.false, w.value-is ∙ w.moved.ensures.answer))
     ] in
-    record { answer = third_spared i n (nat_lt (length v.memory) c.args.tail) _ e c.if-moved.true }
+    record { answer = third_spared i n (nat_lt (length v.memory) c.args.snapshot.now.tail) _ e c.if-moved.true }
 
 pub returns-else-moved : goal.returns-else-moved
 returns-else-moved c =
     let v = view c.args.s.now in
     let i = idle v in
-    let n = not (same_slot c.args.current (open_slot v)) in
+    let n = not (same_slot c.args.snapshot.now.current (open_slot v)) in
     let e : c.if-idle.value ≡ (i || n) = elim c.if-idle.branch [
       | then-idle w ↦ two_of i n _ (inl (sym c.idle.ensures.answer ∙ w.if-idle.true, w.value-is ∙ c.idle.ensures.answer))
       | else-idle w ↦ two_of i n _ (inr (sym c.idle.ensures.answer ∙ w.if-idle.false, w.value-is ∙ w.moved.ensures.answer))
     ] in
-    record { answer = ap (λ (k : ℕ). nat_lt k c.args.tail) (c.len.ensures ∙ c.args.s.now.memory.ok.0) ∙ third_decides i n (nat_lt (length v.memory) c.args.tail) _ e c.if-moved.false }
+    record { answer = ap (λ (k : ℕ). nat_lt k c.args.snapshot.now.tail) (c.len.ensures ∙ c.args.s.now.memory.ok.0) ∙ third_decides i n (nat_lt (length v.memory) c.args.snapshot.now.tail) _ e c.if-moved.false }
