@@ -1,21 +1,13 @@
 // Bytes at a place that was taken before: assigned, and read.
-ghost use Rattle.std.specs.Prelude.{◌≡◌, ◌+◌, IfSome, if◌then◌else◌, Some, None, nat_le};
+ghost use Rattle.std.specs.Prelude.{◌≡◌, IfSome, if◌then◌else◌, Some, None, nat_le};
 ghost use Rattle.std.specs.Option.{option_map};
 ghost use Rattle.model.specs.Writing.{copy_assign_from_bytes, copy_assign, check_assign};
 ghost use Rattle.model.specs.Reading.{value_at};
 ghost use Rattle.serializer_state.specs.View.{view};
 
 use cursor::flags::SerializeErrorFlags;
-use scalar::{CountScalar, Scalar, read_at};
+use scalar::{CountScalar, Scalar, has_room, read_at};
 use serializer_state::SerializerState;
-
-// Whether so many bytes from a place on end at or before tail; their sum need not be a usize.
-fn ends_by_tail(s: &SerializerState, at: usize, size: usize) -> bool
-    ensures answer { result ≡ nat_le (at + size) (view s.now).tail }
-{
-    let tail = s.cursor.tail;
-    size <= tail && at <= tail - size
-}
 
 // Assigns bytes from a place on, which must end at or before tail.
 pub fn copy_assign_from_bytes(s: &mut SerializerState, at: usize, bytes: &[u8])
@@ -24,7 +16,7 @@ pub fn copy_assign_from_bytes(s: &mut SerializerState, at: usize, bytes: &[u8])
     if s.ended {
         return;
     }
-    if !ends_by_tail(s, at, bytes.len()) {
+    if !has_room(s.cursor.tail, at, bytes.len()) {
         let _ = s.other();
         return;
     }
