@@ -5,7 +5,7 @@ ghost use Rattle.register_list.specs.Meaning.{meaning};
 ghost use Rattle.register_list.specs.Laws.{counted_rows};
 
 use super::ListRegister;
-use super::row::{Row, find, next_in, put};
+use super::row::{Row, first_under, put};
 use link::ObjIdx;
 use register::Register;
 use std::alloc::{AllocError, Global};
@@ -27,7 +27,7 @@ impl Register for ListRegister {
 
     fn enter(&mut self, hash: u64, number: ObjIdx) -> bool {
         let row = Row { number, hash };
-        let Err(at) = find(&self.rows, row) else {
+        let Err(at) = self.find(row) else {
             return true;
         };
         if self.rows.len() == self.capacity {
@@ -38,13 +38,14 @@ impl Register for ListRegister {
     }
 
     fn strike(&mut self, hash: u64, number: ObjIdx) {
-        if let Ok(at) = find(&self.rows, Row { number, hash }) {
+        if let Ok(at) = self.find(Row { number, hash }) {
             self.rows.remove(at);
         }
     }
 
     fn next(&self, hash: u64, from: ObjIdx) -> Option<ObjIdx> {
-        next_in(&self.rows, hash, from)
+        let at = self.place(Row { number: from, hash });
+        first_under(&self.rows[at..], hash)
     }
 
     fn capacity(&self) -> usize {

@@ -7,10 +7,10 @@ use Rattle.register_list.proofs.calls.ListRegisterRegister.strike.Goals as goal
 pub returns-in-Ok : goal.returns-in-Ok
 returns-in-Ok c =
     let xs = vec_items c.args.self.now.rows in
-    let f = rw c.deref.ensures.value at c.in-Ok.ensures.answer in
+    let f = c.in-Ok.ensures.answer in
     record { register = rw c.remove.ensures.items (struck_removed xs _ _ _ c.args.self.now.sorted f) }
 
 pub returns-in_default : goal.returns-in_default
 returns-in_default c =
     let xs = vec_items c.args.self.now.rows in
-    record { register = struck_none (pairs xs) _ _ _ (missing_among xs _ _ (rw c.deref.ensures.value at c.in_default.ensures.answer)) }
+    record { register = struck_none (pairs xs) _ _ _ (missing_among xs _ _ c.in_default.ensures.answer) }
