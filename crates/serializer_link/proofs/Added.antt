@@ -6,13 +6,13 @@ use Rattle.link.specs.declared.Link.{Link}
 use Rattle.link.specs.declared.ObjIdx.{ObjIdx}
 use Rattle.link.specs.declared.OffsetWhence.{OffsetWhence}
 use Rattle.model.specs.State.{State}
-use Rattle.model.specs.Linking.{add_link, extend}
+use Rattle.model.specs.Linking.{add_link, add_virtual_link, extend, extend_virtual}
 use Rattle.objects.specs.declared.extents.Outline.{Outline}
 use Rattle.objects.specs.Change.{first, outlined}
-use Rattle.serializer_state.specs.Declines.{ready, found}
+use Rattle.serializer_state.specs.Declines.{changeable, ready, found}
 use Rattle.serializer_link.specs.declared.adds.Field.{Field}
 use Rattle.serializer_link.specs.Range.{field_in}
-use Rattle.serializer_link.specs.Added.{added}
+use Rattle.serializer_link.proofs.Joined.{added}
 
 module _ (from to : ℕ) (k : ObjIdx) (w : OffsetWhence) (b : ℕ) (g : Bool) (s : State) (live : ready s ≡ Ok tt) (o : Option Outline) (read : o ≡ option_map outlined (first s.opened)) where
   pub none_open : (f : SerializeErrorFlags) → (found o s).1 ≡ Err f → add_link from to k w b g s ≡ ((found o s).0, Err f)
@@ -27,3 +27,6 @@ module _ (from to : ℕ) (k : ObjIdx) (w : OffsetWhence) (b : ℕ) (g : Bool) (s
 
     pub has_field : (f : Field) → (found p t).1 ≡ Ok f → (u : State) → u ≡ (found p t).0 → add_link from to k w b g s ≡ added (extend (the_link f)) u
     has_field f e u then = grind arith
+
+pub virtual_begun : (k : ObjIdx) (s : State) → changeable s ≡ Ok tt → add_virtual_link k s ≡ added (extend_virtual k) s
+virtual_begun k s live = grind arith

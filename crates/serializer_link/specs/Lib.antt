@@ -1,3 +1,2 @@
 pub mod Range
-pub mod Added
 pub mod Order

@@ -1,9 +1,8 @@
 // Links added to the open object: real ones, by which offsets are written, and virtual ones, which only
 // order objects.
 ghost use Rattle.std.specs.Prelude.{◌≡◌};
-ghost use Rattle.model.specs.Linking.{extend, extend_virtual, add_link, add_virtual_link};
+ghost use Rattle.model.specs.Linking.{add_link, add_virtual_link};
 ghost use Rattle.serializer_state.specs.View.{view};
-ghost use Rattle.serializer_link.specs.Added.{added};
 ghost use Rattle.serializer_link.specs.Range.{field_in};
 
 use cursor::flags::SerializeErrorFlags;
@@ -30,25 +29,8 @@ fn field_in(head: usize, range: Range<usize>) -> Option<Field>
     })
 }
 
-// Puts a link at the end of the open object's real ones: declined where none is open, or no cell is free.
-fn add_real(s: &mut SerializerState, link: Link) -> Result<(), SerializeErrorFlags>
-    ensures answer { result ≡ (added (extend link) (view s.old)).1 }
-    ensures state { view s.new ≡ (added (extend link) (view s.old)).0 }
-{
-    let linked = s.objects.add_real(link);
-    s.required(linked)
-}
-
-// Puts a link at the end of the open object's virtual ones: declined where none is open, or no cell is free.
-fn add_virtual(s: &mut SerializerState, objidx: ObjIdx) -> Result<(), SerializeErrorFlags>
-    ensures answer { result ≡ (added (extend_virtual objidx) (view s.old)).1 }
-    ensures state { view s.new ≡ (added (extend_virtual objidx) (view s.old)).0 }
-{
-    let ordered = s.objects.add_virtual(objidx);
-    s.required(ordered)
-}
-
-// Links the field at a range of the memory to an object.
+// Links the field at a range of the memory to an object: declined where none is open, the range can be no
+// field of it, or no cell is free. The parameters stand one by one, as in the Rust crate's call.
 pub fn add_link(
     s: &mut SerializerState,
     from: usize,
@@ -65,22 +47,23 @@ pub fn add_link(
     let innermost = s.objects.outline(Which::Innermost);
     let object = s.found(innermost)?;
     let field = s.found(field_in(object.extent.head, from..to))?;
-    let link = Link {
+    let linked = s.objects.add_real(Link {
         width: field.width,
         is_signed,
         whence,
         bias,
         position: field.position,
         objidx,
-    };
-    add_real(s, link)
+    });
+    s.required(linked)
 }
 
-// Orders the open object before another one.
+// Orders the open object before another one: declined where none is open, or no cell is free.
 pub fn add_virtual_link(s: &mut SerializerState, objidx: ObjIdx) -> Result<(), SerializeErrorFlags>
     ensures answer { result ≡ (add_virtual_link objidx (view s.old)).1 }
     ensures state { view s.new ≡ (add_virtual_link objidx (view s.old)).0 }
 {
     s.changeable()?;
-    add_virtual(s, objidx)
+    let ordered = s.objects.add_virtual(objidx);
+    s.required(ordered)
 }

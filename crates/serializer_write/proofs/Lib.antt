@@ -1,2 +1,1 @@
-mod Raw
 mod Open

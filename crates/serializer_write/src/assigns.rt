@@ -29,7 +29,7 @@ pub fn copy_assign<S: Scalar>(s: &mut SerializerState, at: usize, value: S)
     ensures fits { S.Scalar.fits value }
 {
     let raw = value.raw();
-    copy_assign_from_bytes(s, at, &raw[..S::size()])
+    copy_assign_from_bytes(s, at, &raw[0..S::size()])
 }
 
 // Assigns a count from a place on; one that the scalar cannot hold sets the flags that the caller names.

@@ -53,5 +53,5 @@ pub fn embed<S: Scalar>(s: &mut SerializerState, value: S) -> Result<usize, Seri
     ensures fits { S.Scalar.fits value }
 {
     let raw = value.raw();
-    embed_bytes(s, &raw[..S::size()])
+    embed_bytes(s, &raw[0..S::size()])
 }

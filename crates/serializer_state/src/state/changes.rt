@@ -1,4 +1,5 @@
-// Changes of one part: bytes of the memory, and the places of head and tail.
+// Changes of one part: bytes of the memory, and the places of head and tail. Each answers by a bool whether it
+// was made, since there is one reason to decline it, which the caller can tell beforehand.
 ghost use Rattle.std.specs.Prelude.{◌≡◌, length, replicate, if◌then◌else◌};
 ghost use Rattle.scalar.specs.Place.{room, write};
 ghost use Rattle.model.specs.State.{with_memory, with_cursor};

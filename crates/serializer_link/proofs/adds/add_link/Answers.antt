@@ -1,6 +1,9 @@
 use Rattle.std.proofs.Common.{◌≡◌, Err, sym, ap, ◌∙◌, rules}
 use Rattle.serializer_state.specs.View.{view}
-use Rattle.serializer_link.proofs.Joined.{Answered}
+use Rattle.link.specs.declared.Link.{Link}
+use Rattle.model.specs.Linking.{extend}
+use Rattle.objects.specs.Contents.{contents}
+use Rattle.serializer_link.proofs.Joined.{Answered, joined}
 use Rattle.serializer_link.proofs.Added.{no_field, has_field}
 use Rattle.serializer_link.proofs.adds.add_link.Goals as goal
 
@@ -19,4 +22,6 @@ returns c =
     let e = has_field a.from a.to a.objidx a.whence a.bias a.is_signed (view a.s.now) (sym c.ready.ensures.answer ∙ c.in_ok-ready.was) c.outline-innermost.result c.outline-innermost.ensures.answer
     c.in_ok-object.object (sym c.found.ensures.answer ∙ c.in_ok-object.was) (view c.found.new.self) c.found.ensures.state c.field_in.result c.field_in.ensures.answer c.in_ok-field.field (sym c.found-2.ensures.answer ∙ c.in_ok-field.was)
     (view c.found-2.new.self) c.found-2.ensures.state in
-    record { answer = c.add_real.ensures.answer ∙ sym (ap (λ (q : Answered). q.1) e); state = c.add_real.ensures.state ∙ sym (ap (λ (q : Answered). q.0) e) }
+    let link : Link = record { width = c.in_ok-field.field.width; is_signed = a.is_signed; whence = a.whence; bias = a.bias; position = c.in_ok-field.field.position; objidx = a.objidx } in
+    let j = joined c.found-2.new.self c.add_real-linked.result (extend link) (contents c.add_real-linked.new.self) c.add_real-linked.ensures.answer c.add_real-linked.ensures.state ∙ sym e in
+    record { answer = c.required.ensures.answer ∙ ap (λ (q : Answered). q.1) j; state = c.required.ensures.state ∙ ap (λ (q : Answered). q.0) j }
