@@ -5,7 +5,7 @@
 show=1
 [ "$1" = "-c" ] && { show=0; shift; }
 cd "${1:-$(git rev-parse --show-toplevel)}" || exit 1
-src=$(find crates -path '*/src/*' -name '*.rt' | sort)
+src=$(git ls-files 'crates/*/src/*.rt')
 
 # A heading, and then the lines of the standard input with their count.
 section() {
@@ -59,4 +59,4 @@ code '\bfn\(|dyn ' | section "  function pointers and dyn"
 code '\bimpl Fn|: Fn(Mut|Once)?\(|[(,=] *(move )?\|[a-z_&, ]*\| ' | section "  closures"
 
 echo "8. Proofs"
-find crates -name Answers.antt | section "  files of answers"
+git ls-files 'crates/*/proofs/*Answers.antt' | section "  files of answers"
