@@ -1,22 +1,30 @@
 -- A slot taken from the top of a stack, or put on one: the fields stay sound, and what the objects are then.
-use Rattle.std.proofs.Common.{◌≡◌, ℕ, ◌+◌, ◌*◌, ◌≤◌, List, [], ◌∷◌, ◌++◌, length, get_or, set, IfSome, Some, None, Option, sym, refl, ap, ◌∙◌, arith, MatchOption}
+use Rattle.std.proofs.Common.{◌≡◌, ℕ, ◌+◌, ◌*◌, ◌≤◌, List, [], ◌∷◌, ◌++◌, length, get_or, set, reverse, replicate, IfSome, Some, None, Option, sym, refl, ap, ◌∙◌, arith, MatchOption}
 use Rattle.std.proofs.lemmas.List.{get_or-set_same, length-set, length_push, nil_from_length}
 use Rattle.std.specs.Option.{option_map, option_to_list}
 use Rattle.link.specs.declared.Link.{Link}
 use Rattle.link.specs.declared.PoolIdx.{PoolIdx}
+use Rattle.links.specs.Walk.{sum_of}
 use Rattle.model.specs.State.{Object, Pool}
 use Rattle.objects.specs.declared.extents.Extent.{Extent}
 use Rattle.objects.specs.Slots.{occ, held}
-use Rattle.objects.specs.Contents.{Contents, Parts, built, in_slot, stacked, nowhere}
-use Rattle.objects.specs.Change.{first, behind}
+use Rattle.objects.specs.Contents.{Contents, Parts, meaning, built, in_slot, stacked, nowhere}
+use Rattle.objects.specs.Change.{first, behind, fresh}
 use Rattle.objects.specs.Loose.{Loose}
 use Rattle.objects.proofs.Count.{here, occ_top}
 use Rattle.objects.proofs.Sound.{Sound, Restacked, lighter, loosened, heavier}
-use Rattle.objects.proofs.Frame.{frame_extent, stacked_top}
+use Rattle.objects.proofs.Frame.{frame_extent, stacked_top, none_linked}
 
 -- equal parts, equal contents
 pub same_contents : {os qs ps rs : List Object} {p q : Pool} → os ≡ qs → ps ≡ rs → p ≡ q → ◌≡◌ {A = Contents} (record { opened = os; packed = ps; pool = p }) (record { opened = qs; packed = rs; pool = q })
 same_contents e f g = λ i. record { opened = e i; packed = f i; pool = g i }
+
+-- no slot and no cell in use
+pub idle_means : (es : List Extent) (ls : List (List Link)) (os ps rs : List PoolIdx) (n m slots cells k : ℕ) → ls ≡ replicate k [] → os ≡ [] → ps ≡ [] → rs ≡ [] → n ≡ slots → m ≡ cells
+    → meaning (record { extents = es; links = ls; opened = os; packed = ps; released = rs; used = 0; slots = n; cells = m }) ≡ fresh slots cells
+idle_means es ls os ps rs n m slots cells k e o p r s c =
+    let z : sum_of length ls ≡ 0 = ap (sum_of length) e ∙ none_linked k in
+    same_contents (ap (stacked es ls) o) (ap (stacked es ls) p) (λ i. record { released = reverse (r i); used = 0; slots = s i; linked = z i; cells = c i })
 
 -- ---- the top of a stack
 

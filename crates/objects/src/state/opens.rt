@@ -12,7 +12,6 @@ use std::alloc::{AllocError, Global};
 impl Objects {
     // So many slots and link cells, none of them in use. The extents are made first: where memory holds as
     // many, the number of lists is a `usize` too.
-    #[tactic(auto, using(crate::proofs::Frame::none_linked), unfolding(crate::specs::Contents::contents))]
     pub fn new(heap: Global, slot_count: usize, cell_count: usize) -> Result<Objects, AllocError>
         ensures answer { IfOk result (λ s. contents s ≡ fresh slot_count cell_count) }
     {
