@@ -46,7 +46,7 @@ pub fn least_where<R: Register, F: Fn(ObjIdx) -> bool>(
     requires { (m : ObjIdx) → m.0 < end.0 → F.pre test m }
     ensures answer { LeastWhere (R.Register.holds register.now) hash end.0 (F.post test) result }
 {
-    // Where the search goes on is known from what it found, so it is a loop and no iterator.
+    // The search ends because the numbers found grow, which an iterator of successors would not say: so it is a loop.
     let mut from = ObjIdx(0);
     while let Some(number) = register.next(hash, from) {
         if number >= end {
