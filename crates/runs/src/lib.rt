@@ -5,6 +5,7 @@ pub mod answer;
 pub mod outcome;
 mod reading;
 mod scalars;
+mod shown;
 mod steps;
 
 pub use answer::{Answer, SeenObject};
