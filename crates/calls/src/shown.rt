@@ -19,6 +19,7 @@ impl fmt::Display for Hex<'_> {
     }
 }
 
+// The words of the three flags of calls: a bool shows itself as true or false, which would not say of what.
 fn sign_name(is_signed: bool) -> &'static str {
     if is_signed { "signed" } else { "unsigned" }
 }

@@ -51,7 +51,7 @@ pub(crate) fn copy_assign(s: &mut Serializer, pos: usize, value: ScalarValue)
     }
 }
 
-// `check_assign` at a count of any kind.
+// `check_assign` at a count of any kind. Its parameters are those of the serializer's method, and the kind.
 pub(crate) fn check_assign(
     s: &mut Serializer,
     pos: usize,

@@ -9,7 +9,7 @@ use std::ops::Range;
 
 impl Serializer {
     // Links the field at a range of the memory to an object. When all is packed, the object's offset less the
-    // bias is written there.
+    // bias is written there. The parameters are those of the Rust crate's method.
     pub fn add_link(
         &mut self,
         offset_byte_range: Range<usize>,
