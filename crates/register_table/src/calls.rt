@@ -20,7 +20,7 @@ impl TableRegister {
         ensures register { IfOk result (λ t. meaning t ≡ empty capacity) }
         ensures cells { IfOk result (λ t. width t ≡ max cells (capacity + 1)) }
     {
-        let least = capacity.checked_add(1).ok_or(AllocError)?;
+        let least = capacity.saturating_add(1);
         let cells = vec![in heap; None; cells.max(least)]?;
         Ok(TableRegister {
             cells,
