@@ -4,6 +4,7 @@ ghost use Rattle.std.specs.Prelude.{◌-◌, ◌/◌, ◌^◌, ◌<◌, true, fa
 ghost use Rattle.std.proofs.Common.{to_z, of_z, rules, lit≤};
 ghost use Rattle.std.specs.Int.{w16};
 ghost use Rattle.scalar.specs.BigEndian.{number, big_endian};
+ghost use Rattle.scalar.specs.Laws.{number_big_endian};
 ghost use Rattle.scalar.specs.Numbers.{as_number, unsigned, unsigned_counts};
 ghost use Rattle.std.proofs.lemmas.Int.{of_z-to_z};
 
@@ -18,7 +19,7 @@ impl Scalar for u8 {
 
     ghost fits = { λ x. x < 256 ^ 1 };
 
-    ghost laws = { unsigned 1 (lit≤ tt) (lit≤ tt) };
+    ghost laws = { unsigned 1 (lit≤ tt) (lit≤ tt) (number_big_endian 1) };
 
     fn size() -> usize {
         1
@@ -42,7 +43,7 @@ impl Scalar for u16 {
 
     ghost fits = { λ x. x < 256 ^ 2 };
 
-    ghost laws = { unsigned 2 (lit≤ tt) (lit≤ tt) };
+    ghost laws = { unsigned 2 (lit≤ tt) (lit≤ tt) (number_big_endian 2) };
 
     fn size() -> usize {
         2
@@ -69,7 +70,7 @@ impl Scalar for i16 {
 
     ghost fits = { FitsSigned w16 };
 
-    ghost laws = { as_number 2 (FitsSigned w16) (of_z w16) (to_z w16) (lit≤ tt) (lit≤ tt) (Prim.search rules) (Prim.search rules) (of_z-to_z w16) };
+    ghost laws = { as_number 2 (FitsSigned w16) (of_z w16) (to_z w16) (lit≤ tt) (lit≤ tt) (number_big_endian 2) (Prim.search rules) (Prim.search rules) (of_z-to_z w16) };
 
     fn size() -> usize {
         u16::size()
@@ -93,7 +94,7 @@ impl Scalar for u32 {
 
     ghost fits = { λ x. x < 256 ^ 4 };
 
-    ghost laws = { unsigned 4 (lit≤ tt) (lit≤ tt) };
+    ghost laws = { unsigned 4 (lit≤ tt) (lit≤ tt) (number_big_endian 4) };
 
     fn size() -> usize {
         4
