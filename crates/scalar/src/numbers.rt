@@ -4,7 +4,7 @@ ghost use Rattle.std.specs.Prelude.{◌-◌, ◌/◌, ◌^◌, ◌<◌, true, fa
 ghost use Rattle.std.proofs.Common.{to_z, of_z, rules, lit≤};
 ghost use Rattle.std.specs.Int.{w16};
 ghost use Rattle.scalar.specs.BigEndian.{number, big_endian};
-ghost use Rattle.scalar.specs.Laws.{number_big_endian};
+ghost use Rattle.scalar.specs.Laws.{number_big_endian, number_shown};
 ghost use Rattle.scalar.specs.Numbers.{as_number, unsigned, unsigned_counts};
 ghost use Rattle.std.proofs.lemmas.Int.{of_z-to_z};
 
@@ -19,7 +19,7 @@ impl Scalar for u8 {
 
     ghost fits = { λ x. x < 256 ^ 1 };
 
-    ghost laws = { unsigned 1 (lit≤ tt) (lit≤ tt) (number_big_endian 1) };
+    ghost laws = { unsigned 1 (lit≤ tt) (lit≤ tt) (number_big_endian 1) (number_shown 1) };
 
     fn size() -> usize {
         1
@@ -43,7 +43,7 @@ impl Scalar for u16 {
 
     ghost fits = { λ x. x < 256 ^ 2 };
 
-    ghost laws = { unsigned 2 (lit≤ tt) (lit≤ tt) (number_big_endian 2) };
+    ghost laws = { unsigned 2 (lit≤ tt) (lit≤ tt) (number_big_endian 2) (number_shown 2) };
 
     fn size() -> usize {
         2
@@ -70,7 +70,7 @@ impl Scalar for i16 {
 
     ghost fits = { FitsSigned w16 };
 
-    ghost laws = { as_number 2 (FitsSigned w16) (of_z w16) (to_z w16) (lit≤ tt) (lit≤ tt) (number_big_endian 2) (Prim.search rules) (Prim.search rules) (of_z-to_z w16) };
+    ghost laws = { as_number 2 (FitsSigned w16) (of_z w16) (to_z w16) (lit≤ tt) (lit≤ tt) (number_big_endian 2) (number_shown 2) (Prim.search rules) (Prim.search rules) (of_z-to_z w16) };
 
     fn size() -> usize {
         u16::size()
@@ -94,7 +94,7 @@ impl Scalar for u32 {
 
     ghost fits = { λ x. x < 256 ^ 4 };
 
-    ghost laws = { unsigned 4 (lit≤ tt) (lit≤ tt) (number_big_endian 4) };
+    ghost laws = { unsigned 4 (lit≤ tt) (lit≤ tt) (number_big_endian 4) (number_shown 4) };
 
     fn size() -> usize {
         4

@@ -4,7 +4,7 @@ ghost use Rattle.std.specs.Prelude.{◌≡◌, ℕ, ◌-◌, ◌%◌, ◌^◌, f
 ghost use Rattle.std.proofs.Common.{mod-eq_of_lt, lit≤, rules, arith};
 ghost use Rattle.scalar.specs.BigEndian.{number, big_endian, Bytes};
 ghost use Rattle.scalar.specs.Kinds.{value_of, uint24, checked, tag_bytes, tag};
-ghost use Rattle.scalar.specs.Laws.{number_big_endian};
+ghost use Rattle.scalar.specs.Laws.{number_big_endian, number_shown};
 ghost use Rattle.scalar.specs.Numbers.{as_number};
 ghost use Rattle.scalar.specs.Small.{uint24_again};
 ghost use Rattle.std.specs.Cmp.Lexicographic.{pointwise};
@@ -61,7 +61,7 @@ impl Scalar for Uint24 {
 
     ghost fits = { λ _. Unit {0} };
 
-    ghost laws = { as_number 3 (λ _. Unit {0}) value_of uint24 (lit≤ tt) (lit≤ tt) (number_big_endian 3) (λ x _. x.small) (λ x _. uint24_again x) (λ _ l. mod-eq_of_lt l) };
+    ghost laws = { as_number 3 (λ _. Unit {0}) value_of uint24 (lit≤ tt) (lit≤ tt) (number_big_endian 3) (number_shown 3) (λ x _. x.small) (λ x _. uint24_again x) (λ _ l. mod-eq_of_lt l) };
 
     fn size() -> usize {
         3
