@@ -24,7 +24,7 @@ const TWO_OVERFLOWS: SerializeErrorFlags = SerializeErrorFlags(INT_OVERFLOW.0 | 
 
 // A link from a range to the object 0: without bias and unsigned where it does not say otherwise. It is a macro,
 // since the value of a static calls no function.
-macro_rules! adds_link {
+macro_rules! link_from {
     ($from:literal..$to:literal, $whence:ident, $bias:literal, $is_signed:literal) => {
         Call::AddLink {
             from: $from,
@@ -36,13 +36,13 @@ macro_rules! adds_link {
         }
     };
     ($from:literal..$to:literal, $whence:ident) => {
-        adds_link!($from..$to, $whence, 0, false)
+        link_from!($from..$to, $whence, 0, false)
     };
     ($from:literal..$to:literal, $whence:ident, bias $bias:literal) => {
-        adds_link!($from..$to, $whence, $bias, false)
+        link_from!($from..$to, $whence, $bias, false)
     };
     ($from:literal..$to:literal, $whence:ident, signed) => {
-        adds_link!($from..$to, $whence, 0, true)
+        link_from!($from..$to, $whence, 0, true)
     };
 }
 
@@ -86,11 +86,11 @@ static SHEETS: [Sheet<'static>; 21] = [
             PUSH,
             CHILD,
             SHARED,
-            Line(adds_link!(0..2, Head), DONE),
+            Line(link_from!(0..2, Head), DONE),
             PUSH,
             CHILD,
             SHARED,
-            Line(adds_link!(2..4, Tail), DONE),
+            Line(link_from!(2..4, Tail), DONE),
             END,
         ],
         flags: NONE,
@@ -106,11 +106,11 @@ static SHEETS: [Sheet<'static>; 21] = [
             PUSH,
             CHILD,
             SHARED,
-            Line(adds_link!(0..2, Head, bias 5), DONE),
+            Line(link_from!(0..2, Head, bias 5), DONE),
             PUSH,
             CHILD,
             SHARED,
-            Line(adds_link!(2..4, Tail), DONE),
+            Line(link_from!(2..4, Tail), DONE),
             END,
         ],
         flags: NONE,
@@ -126,11 +126,11 @@ static SHEETS: [Sheet<'static>; 21] = [
             PUSH,
             CHILD,
             SHARED,
-            Line(adds_link!(0..2, Head, bias 6), DONE),
+            Line(link_from!(0..2, Head, bias 6), DONE),
             PUSH,
             CHILD,
             SHARED,
-            Line(adds_link!(2..4, Tail), DONE),
+            Line(link_from!(2..4, Tail), DONE),
             END,
         ],
         flags: OTHER,
@@ -161,8 +161,8 @@ static SHEETS: [Sheet<'static>; 21] = [
         size: 16,
         lines: &[
             START,
-            Line(adds_link!(3..3, Head), DONE),
-            Line(adds_link!(9..2, Head), DONE),
+            Line(link_from!(3..3, Head), DONE),
+            Line(link_from!(9..2, Head), DONE),
         ],
         flags: NONE,
         length: 0,
@@ -171,7 +171,7 @@ static SHEETS: [Sheet<'static>; 21] = [
     Sheet {
         name: "a link range of length 1",
         size: 16,
-        lines: &[START, Line(adds_link!(3..4, Head), Reply::Done(Err(OTHER)))],
+        lines: &[START, Line(link_from!(3..4, Head), Reply::Done(Err(OTHER)))],
         flags: OTHER,
         length: 0,
         first: &[],
@@ -179,7 +179,7 @@ static SHEETS: [Sheet<'static>; 21] = [
     Sheet {
         name: "a link range of length 5",
         size: 16,
-        lines: &[START, Line(adds_link!(0..5, Head), Reply::Done(Err(OTHER)))],
+        lines: &[START, Line(link_from!(0..5, Head), Reply::Done(Err(OTHER)))],
         flags: OTHER,
         length: 0,
         first: &[],
@@ -193,7 +193,7 @@ static SHEETS: [Sheet<'static>; 21] = [
             ONE,
             KEPT,
             Line(Call::Pad(65535), AT_START),
-            Line(adds_link!(0..2, Head), DONE),
+            Line(link_from!(0..2, Head), DONE),
             END,
         ],
         flags: NONE,
@@ -209,7 +209,7 @@ static SHEETS: [Sheet<'static>; 21] = [
             ONE,
             KEPT,
             Line(Call::Pad(65536), AT_START),
-            Line(adds_link!(0..2, Head), DONE),
+            Line(link_from!(0..2, Head), DONE),
             END,
         ],
         flags: OFFSET_OVERFLOW,
@@ -225,7 +225,7 @@ static SHEETS: [Sheet<'static>; 21] = [
             ONE,
             KEPT,
             Line(Call::Pad(65536), AT_START),
-            Line(adds_link!(0..2, Head, bias 1), DONE),
+            Line(link_from!(0..2, Head, bias 1), DONE),
             END,
         ],
         flags: NONE,
@@ -241,7 +241,7 @@ static SHEETS: [Sheet<'static>; 21] = [
             ONE,
             KEPT,
             Line(Call::Pad(32767), AT_START),
-            Line(adds_link!(0..2, Head, signed), DONE),
+            Line(link_from!(0..2, Head, signed), DONE),
             END,
         ],
         flags: NONE,
@@ -257,7 +257,7 @@ static SHEETS: [Sheet<'static>; 21] = [
             ONE,
             KEPT,
             Line(Call::Pad(32768), AT_START),
-            Line(adds_link!(0..2, Head, signed), DONE),
+            Line(link_from!(0..2, Head, signed), DONE),
             END,
         ],
         flags: OFFSET_OVERFLOW,
@@ -275,7 +275,7 @@ static SHEETS: [Sheet<'static>; 21] = [
     Sheet {
         name: "an empty object with a link",
         size: 8,
-        lines: &[PUSH, Line(adds_link!(0..2, Head), DONE), EMPTY],
+        lines: &[PUSH, Line(link_from!(0..2, Head), DONE), EMPTY],
         flags: OTHER,
         length: 0,
         first: &[],
@@ -341,7 +341,7 @@ static SHEETS: [Sheet<'static>; 21] = [
             START,
             PUSH,
             NINES,
-            Line(adds_link!(0..2, Head), DONE),
+            Line(link_from!(0..2, Head), DONE),
             SHARED,
             END,
         ],
@@ -356,7 +356,7 @@ static SHEETS: [Sheet<'static>; 21] = [
             START,
             PUSH,
             NINES,
-            Line(adds_link!(0..2, Tail), DONE),
+            Line(link_from!(0..2, Tail), DONE),
             SHARED,
             END,
         ],
