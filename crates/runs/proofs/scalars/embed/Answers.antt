@@ -6,19 +6,11 @@ use Rattle.calls.specs.Meaning.{scalar_bytes}
 use Rattle.model.specs.Writing.{embed}
 use Rattle.runs.proofs.scalars.embed.Goals as goal
 
-pub returns-in-I16 : goal.returns-in-I16
-returns-in-I16 c =
+pub returns-in-I16-clause-state : goal.returns-in-I16-clause-state
+returns-in-I16-clause-state c =
     let s = c.args.s.now in
     let x = c.in-I16.x in
     let f : SFits w16 x = search rules in
-    let back = to_z-of_z w16 x f in
-    record {
-      answer =
-          c.embed-in-I16.ensures.answer
-          ∙ ap (λ (z : ℤ). (embed (big_endian 2 (of_z w16 z)) s).1) back
-          ∙ ap (λ (v : ScalarValue). (embed (scalar_bytes v) s).1) (sym c.in-I16.is);
-      state =
-          c.embed-in-I16.ensures.state
-          ∙ ap (λ (z : ℤ). (embed (big_endian 2 (of_z w16 z)) s).0) back
-          ∙ ap (λ (v : ScalarValue). (embed (scalar_bytes v) s).0) (sym c.in-I16.is);
-    }
+    c.embed-in-I16.ensures.state
+    ∙ ap (λ (z : ℤ). (embed (big_endian 2 (of_z w16 z)) s).0) (to_z-of_z w16 x f)
+    ∙ ap (λ (v : ScalarValue). (embed (scalar_bytes v) s).0) (sym c.in-I16.is)
