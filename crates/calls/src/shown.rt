@@ -93,7 +93,7 @@ impl fmt::Display for Reading {
 impl fmt::Display for Call<'_> {
     fn fmt<W: fmt::Write>(&self, f: &mut fmt::Formatter<W>) -> fmt::Result {
         match *self {
-            Call::SetErr(flags) => write!(f, "set_err {}", flags.0),
+            Call::SetErr(flags) => write!(f, "set_err {flags}"),
             Call::StartSerialize => f.write_str("start_serialize"),
             Call::Push => f.write_str("push"),
             Call::AllocateSize(size, clear) => {
@@ -111,7 +111,7 @@ impl fmt::Display for Call<'_> {
                 kind,
                 count,
                 flags,
-            } => write!(f, "check_assign {pos} {kind} {count} {}", flags.0),
+            } => write!(f, "check_assign {pos} {kind} {count} {flags}"),
             Call::AddLink {
                 from,
                 to,

@@ -39,7 +39,7 @@ impl From<AllocError> for CoverageFault {
     ghost from_gives = { λ _ fault. fault ≡ NoMemory };
 
     fn from(_error: AllocError) -> CoverageFault {
-        CoverageFault::NoMemory
+        Self::NoMemory
     }
 }
 

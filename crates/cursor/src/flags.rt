@@ -4,10 +4,18 @@
 ghost use Rattle.std.specs.Prelude.{◌≡◌, not};
 ghost use Rattle.cursor.specs.Flags.{named, none, out_of_room, offset_overflow, joined, same_flags, contains, soft, hard};
 
+use std::fmt;
 use std::ops::BitOrAssign;
 
 #[derive(Clone, Copy, PartialEq, Eq, Debug)]
 pub struct SerializeErrorFlags(pub u16);
+
+// By their number.
+impl fmt::Display for SerializeErrorFlags {
+    fn fmt<W: fmt::Write>(&self, f: &mut fmt::Formatter<W>) -> fmt::Result {
+        write!(f, "{}", self.0)
+    }
+}
 
 // No flag stands at first.
 impl Default for SerializeErrorFlags {

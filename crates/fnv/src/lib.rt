@@ -33,7 +33,7 @@ impl Hasher for FnvHasher {
     fn write(&mut self, bytes: &[u8])
         ensures state { self.new.0 ≡ hashed_from self.old.0 bytes.now }
     {
-        self.0 = feed(self.0, bytes);
+        *self = FnvHasher(feed(self.0, bytes));
     }
 
     // The hash of all that was fed.
@@ -51,7 +51,8 @@ fn mix(hash: u64, byte: u8) -> u64
     (hash ^ u64::from(byte)).wrapping_mul(FNV_PRIME)
 }
 
-// The bytes one after another, from a hash on: by the project's rule a loop over the elements of the slice.
+// The bytes one after another, from a hash on. It stays a loop over them and no fold: so the public description
+// of the hash has it, for each byte an exclusive or and then a multiplication.
 fn feed(mut hash: u64, bytes: &[u8]) -> u64
     ensures answer { result ≡ hashed_from hash bytes.now }
 {

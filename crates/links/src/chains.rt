@@ -33,6 +33,7 @@ impl Chain {
         requires within { n < self.count }
         ensures answer { result ≡ hop (nexts cells.now) self.first n }
     {
+        // A loop: a fold's closure would not know that the cell it is at is inside.
         let mut at = self.first;
         for _ in 0..n {
             at = cells[at].next;

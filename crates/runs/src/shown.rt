@@ -1,4 +1,5 @@
-// Answers as readable lines.
+// Answers as readable lines. The replies of the worked sheets, which stand in a static and so hold no vector, are a type
+// of their own and are printed there.
 use crate::answer::{Answer, SeenObject};
 use calls::Hex;
 use std::fmt;
@@ -24,9 +25,9 @@ impl fmt::Display for Answer {
             Answer::Nothing => f.write_str("nothing"),
             Answer::Done(Ok(())) => f.write_str("ok"),
             Answer::Place(Ok(place)) => write!(f, "ok {place}"),
-            Answer::Done(Err(flags)) | Answer::Place(Err(flags)) => write!(f, "err {}", flags.0),
+            Answer::Done(Err(flags)) | Answer::Place(Err(flags)) => write!(f, "err {flags}"),
             Answer::Number(Some(number)) => write!(f, "some {number}"),
-            Answer::Flags(flags) => write!(f, "flags {}", flags.0),
+            Answer::Flags(flags) => write!(f, "flags {flags}"),
             Answer::Whether(yes) => write!(f, "{yes}"),
             Answer::Amount(amount) => write!(f, "{amount}"),
             Answer::Value(Some(value)) => write!(f, "some {value}"),

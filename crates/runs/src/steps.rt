@@ -13,8 +13,8 @@ use register::Register;
 use serialize::Serializer;
 use std::alloc::{AllocError, Global};
 
-// A snapshot once more, field by field: a revert uses its snapshot up, so a snapshot has no Clone, and here the
-// answer keeps its own.
+// A snapshot once more, field by field: as in the Rust crate a revert uses its snapshot up and a snapshot has no Clone,
+// while the answer of a list keeps its own.
 fn again(snapshot: &Snapshot) -> Snapshot
     ensures answer { result ≡ snapshot.now }
 {

@@ -1,17 +1,13 @@
--- Bytes held in an array of four, and what is read at a place.
-use Rattle.std.proofs.Common.{◌≡◌, ℕ, ◌+◌, ◌-◌, ◌<◌, true, false, cond, List, length, get_or, take, replicate, Some, None, refl, ap, ◌∙◌, arith}
+-- What is read at a place.
+use Rattle.std.proofs.Common.{◌≡◌, ℕ, ◌+◌, ◌<◌, true, false, cond, List, get_or, Some, None, refl, ap, ◌∙◌, arith}
 use Rattle.std.specs.Option.{option_map}
 use Rattle.std.proofs.ByRecursion.{All-from_get_or}
-use Rattle.std.proofs.lemmas.List.{take_at, places}
+use Rattle.std.proofs.lemmas.List.{places}
 use Rattle.std.proofs.lemmas.List.Edits.{length-between}
 use Rattle.std.proofs.lemmas.Bool.{leb-true}
 use Rattle.scalar.specs.BigEndian.{Bytes}
-use Rattle.scalar.specs.Place.{room, part, read, in_four}
+use Rattle.scalar.specs.Place.{room, part, read}
 use Rattle.scalar.specs.Scalars.{ScalarLaws}
-
--- the bytes stand first
-pub take_in_four : (bs : List ℕ) (w : ℕ) → length bs ≡ w → take w (in_four bs) ≡ bs
-take_in_four bs w l = take_at bs (replicate (4 - length bs) 0) w l
 
 -- a part of bytes is one of bytes
 part_bytes : (m : List ℕ) (from to : ℕ) → ((i : ℕ) → get_or m i 0 < 256) → Bytes (part m from to)

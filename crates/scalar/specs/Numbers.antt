@@ -1,4 +1,4 @@
--- The scalars that stand as numbers: once for every width, that they keep the laws. Used by the impls.
+-- The scalars that stand as numbers: once for every width, that they keep the laws. Used by the impls, which hand in that bytes show their number, so that a notation that is none is refused where a scalar is declared.
 use Rattle.std.specs.Prelude.{◌≡◌, ℕ, zero, suc, ◌-◌, ◌%◌, ◌^◌, ◌<◌, ◌≤◌, false, List, length, refl}
 use Rattle.std.proofs.Common.{ap, ◌∙◌, mod-eq_of_lt, arith}
 use Rattle.scalar.specs.BigEndian.{number, big_endian, Bytes}

@@ -12,7 +12,8 @@ pub fn has_room(len: usize, at: usize, size: usize) -> bool
     size <= len && at <= len - size
 }
 
-// Writes the bytes of a scalar from `at` on, exactly if they have room there.
+// Writes the bytes of a scalar from `at` on, exactly if they have room there: a bool says whether, since there is
+// one way to decline, and nothing to hand on.
 pub fn write_at<S: Scalar>(buf: &mut [u8], at: usize, value: S) -> bool
     ensures answer { result ≡ room buf.old at S.Scalar.width }
     ensures state { buf.new ≡ (if result then write buf.old at (S.Scalar.bytes value) else buf.old) }

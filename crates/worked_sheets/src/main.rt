@@ -15,10 +15,10 @@ impl fmt::Display for Reply {
             Reply::Nothing => f.write_str("nothing"),
             Reply::Done(Ok(())) => f.write_str("ok"),
             Reply::Place(Ok(place)) => write!(f, "ok {place}"),
-            Reply::Done(Err(flags)) | Reply::Place(Err(flags)) => write!(f, "err {}", flags.0),
+            Reply::Done(Err(flags)) | Reply::Place(Err(flags)) => write!(f, "err {flags}"),
             Reply::Number(Some(number)) => write!(f, "some {number}"),
             Reply::Number(None) => f.write_str("none"),
-            Reply::Flags(flags) => write!(f, "flags {}", flags.0),
+            Reply::Flags(flags) => write!(f, "flags {flags}"),
             Reply::Taken { head, tail } => write!(f, "head {head}, tail {tail}"),
         }
     }
@@ -34,7 +34,7 @@ impl fmt::Display for Sheet<'_> {
         write!(
             f,
             "  flags {}, output of {} bytes: {first}",
-            self.flags.0, self.length
+            self.flags, self.length
         )
     }
 }

@@ -1,4 +1,4 @@
-// Links added to an object and cut back, and an object shared.
+// Links added to an object and cut back, and an object shared. A bool says whether it was done, as for a list of links.
 ghost use Rattle.std.specs.Prelude.{◌≡◌, ◌&&◌, is_some, if◌then◌else◌};
 ghost use Rattle.model.specs.State.{numbered, cell_free};
 ghost use Rattle.model.specs.Linking.{virtual_to};
