@@ -15,9 +15,6 @@ use Rattle.serializer_link.specs.Range.{field_in}
 use Rattle.serializer_link.proofs.Joined.{added}
 
 module _ (from to : ℕ) (k : ObjIdx) (w : OffsetWhence) (b : ℕ) (g : Bool) (s : State) (live : ready s ≡ Ok tt) (o : Option Outline) (read : o ≡ option_map outlined (first s.opened)) where
-  pub none_open : (f : SerializeErrorFlags) → (found o s).1 ≡ Err f → add_link from to k w b g s ≡ ((found o s).0, Err f)
-  none_open f e = grind arith
-
   module _ (object : Outline) (some : (found o s).1 ≡ Ok object) (t : State) (after : t ≡ (found o s).0) (p : Option Field) (fits : p ≡ field_in object.extent.head from to) where
     pub no_field : (f : SerializeErrorFlags) → (found p t).1 ≡ Err f → add_link from to k w b g s ≡ ((found p t).0, Err f)
     no_field f e = grind arith
