@@ -11,6 +11,8 @@ pub mod changes;
 pub mod declines;
 pub mod hashes;
 
+// Its contracts say `view` of it where a model would make it its value: its fields are public, and the crates that
+// are built on it change them one by one, so that contracts and invariants name fields as well as the view.
 #[derive(Drop)]
 pub struct SerializerState {
     pub memory: Vec<u8>,

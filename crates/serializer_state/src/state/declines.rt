@@ -80,6 +80,7 @@ impl SerializerState {
         ensures answer { result ≡ (found part (view self.old)).1 }
         ensures state { view self.new ≡ (found part (view self.old)).0 }
     {
+        // A match and no ok_or_else, since no proof knows what a closure did to the state that it held.
         match part {
             Some(part) => Ok(part),
             None => Err(self.other()),
