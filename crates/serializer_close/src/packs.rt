@@ -6,8 +6,7 @@ ghost use Rattle.model.specs.Closing.{pop_pack};
 ghost use Rattle.serializer_state.specs.View.{view};
 ghost use Rattle.serializer_close.specs.Steps.{closed, flagged_closed, lifted, packed_at, shared_at, pack_at};
 
-use crate::twins::{find_twin, hash_at};
-use cursor::flags::SerializeErrorFlags;
+use crate::twins::find_twin;
 use link::ObjIdx;
 use memory::move_part;
 use objects::{Extent, Outline, Which};
@@ -34,7 +33,7 @@ fn close_flagged(s: &mut SerializerState)
     ensures state { view s.new ≡ flagged_closed (view s.old) }
 {
     close_empty(s);
-    let _ = s.flag(SerializeErrorFlags::SERIALIZE_ERROR_OTHER);
+    let _ = s.other();
 }
 
 // Moves the bytes from a place up to head so that they end at tail, and answers where they lie then.
@@ -86,7 +85,7 @@ fn pack_shared<R: Register>(s: &mut SerializerState, at: Extent, register: &mut 
     ensures register { R.Register.holds register.new ≡ (pack_at at (view s.old) (R.Register.holds register.old)).register }
     ensures answer { Some result ≡ (pack_at at (view s.old) (R.Register.holds register.old)).answer }
 {
-    let hash = hash_at(s, at);
+    let hash = s.hash_of(Which::Innermost, at);
     if let Some(number) = find_twin(s, register, hash, at) {
         share_with(s, number);
         return number;

@@ -4,7 +4,7 @@ ghost use Rattle.std.specs.Option.{option_map};
 ghost use Rattle.scalar.specs.Place.{part};
 ghost use Rattle.model.specs.State.{index};
 ghost use Rattle.model.specs.Declining.{nothing_open};
-ghost use Rattle.model.specs.Closing.{hash as hashed, same_bytes, twin as least_twin};
+ghost use Rattle.model.specs.Closing.{same_bytes, twin as least_twin};
 ghost use Rattle.model.specs.Reading.{real_of};
 ghost use Rattle.objects.specs.Change.{first};
 ghost use Rattle.serializer_state.specs.View.{view};
@@ -35,13 +35,6 @@ fn like(s: &SerializerState, number: ObjIdx, at: Extent) -> bool
     s.objects.outline(which).is_some_and(|other| {
         same_bytes_at(s, other.extent, at) && s.objects.same_links(which, Which::Innermost)
     })
-}
-
-// The hash of the bytes at an extent and of the real links of the innermost object.
-pub(crate) fn hash_at(s: &SerializerState, at: Extent) -> u64
-    ensures answer { result ≡ hashed (part (view s.now).memory at.head at.tail) (real_of (first (view s.now).opened)) }
-{
-    s.hash_of(Which::Innermost, at)
 }
 
 // The least number entered under the hash whose object has the bytes at an extent and the real links of the

@@ -13,5 +13,5 @@ share_with-requires-clause-packed g c =
     let bs = part s.memory c.args.at.head c.args.at.tail in
     let ls = real_of (first s.opened) in
     let r = g.R.Register.holds c.args.register.now in
-    let h = c.hash_at-hash.result in
+    let h = c.hash_of-hash.result in
     twin_within s.memory r h bs ls s.packed c.in-Some.number.0 (found (twin s.memory r h bs ls s.packed) c.in-Some.number c.in-Some.ensures.answer)
