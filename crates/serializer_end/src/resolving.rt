@@ -4,7 +4,6 @@ ghost use Rattle.model.specs.Ending.{resolve, end_flagged};
 ghost use Rattle.model.specs.State.{with_ended};
 ghost use Rattle.serializer_state.specs.View.{view};
 
-use cursor::flags::SerializeErrorFlags;
 use offset_fields::write_fields;
 use serializer_state::SerializerState;
 
@@ -15,7 +14,7 @@ pub(crate) fn end_flagged(s: &mut SerializerState)
     if !s.flags.offset_overflow() {
         return;
     }
-    let _ = s.flag(SerializeErrorFlags::SERIALIZE_ERROR_OTHER);
+    let _ = s.other();
 }
 
 // Ends the serializer and writes the fields of all links, unless a flag stands. An object that is still open
@@ -28,7 +27,7 @@ pub(crate) fn finish(s: &mut SerializerState)
         return;
     }
     if !s.nothing_open() {
-        let _ = s.flag(SerializeErrorFlags::SERIALIZE_ERROR_OTHER);
+        let _ = s.other();
         return;
     }
     write_fields(&s.objects, s.cursor, &mut s.memory, &mut s.flags);
