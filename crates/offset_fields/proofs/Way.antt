@@ -41,13 +41,6 @@ past_all n (o ∷ os) e = elim (cases_eq (length os) n) [
 pub none_outlined : (n : ℕ) (os : List Object) → option_map outlined (numbered os n) ≡ None → placed_from n os ≡ []
 none_outlined n os e = none_from n os (past_all n os (no_outline (numbered os n) e))
 
-none_past : (n : ℕ) (os : List Object) → length os ≤ n → numbered os n ≡ None
-none_past n [] h = refl
-none_past n (o ∷ os) h = last_passed o os n (λ e. omega arith) ∙ none_past n os (omega arith)
-
-pub no_links_past : (n : ℕ) (os : List Object) → length os ≤ n → real_of (numbered os n) ≡ []
-no_links_past n os h = ap real_of (none_past n os h)
-
 -- ---- the next object
 
 next_first : (n : ℕ) (os : List Object) (p : Object) → n < length os → numbered os n ≡ Some p → placed_from n os ≡ map (placed (extent_of p)) p.real ++ placed_from (n + 1) os

@@ -23,8 +23,8 @@ struct ObjectLinks<'a> {
     links: LinkIter<'a>,
 }
 
-// The links of all objects, by the objects' numbers. It is no `flatten`, which asks, wherever it is run, for a bound
-// on how many links each object has.
+// The links of all objects, by the objects' numbers. It is no `flatten`, which asks at each turn that the
+// links begun come to an end: both passes would have to prove that, where here `remaining` says it once.
 #[derive(Drop)]
 pub(crate) struct PackedLinks<'a> {
     objects: &'a Objects,

@@ -38,8 +38,8 @@ fn write_number(memory: &mut [u8], at: usize, width: LinkWidth, number: u32) -> 
     put_bytes(memory, at, part_of(&raw, 4 - width.size(), 4))
 }
 
-// Writes an offset into the field of a link of the object `parent`. One above the largest that the field
-// holds sets OFFSET_OVERFLOW; a field past the end of the memory sets OTHER.
+// Writes an offset into the field of a placed link. One above the largest that the field holds sets
+// OFFSET_OVERFLOW; a field past the end of the memory sets OTHER.
 pub(crate) fn put_offset(
     memory: &mut [u8],
     flags: &mut SerializeErrorFlags,
