@@ -24,9 +24,8 @@ pub fn pop_discard<R: Register>(s: &mut SerializerState, register: &mut R)
     if s.idle() {
         return;
     }
-    let Some(object) = s.objects.outline(Which::Innermost) else {
-        return;
-    };
-    rewind(s, object.extent, register);
-    release(s);
+    if let Some(object) = s.objects.outline(Which::Innermost) {
+        rewind(s, object.extent, register);
+        release(s);
+    }
 }

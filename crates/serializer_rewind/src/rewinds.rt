@@ -1,11 +1,7 @@
 // The rewind: head and tail go back, and the objects packed since are released.
 ghost use Rattle.std.specs.Prelude.{◌≡◌, ◌≤◌, ◌||◌, length, nat_lt};
-ghost use Rattle.scalar.specs.Place.{part};
-ghost use Rattle.model.specs.Closing.{hash as hashed};
 ghost use Rattle.model.specs.Declining.{flagged};
-ghost use Rattle.model.specs.Reading.{real_of};
 ghost use Rattle.model.specs.Rewinding.{discard, edge, on_edge, rewind as rewinds};
-ghost use Rattle.objects.specs.Change.{first};
 ghost use Rattle.serializer_state.specs.View.{view};
 ghost use Rattle.serializer_rewind.specs.Left.{left_from};
 
@@ -14,22 +10,17 @@ use objects::{Extent, Which};
 use register::Register;
 use serializer_state::SerializerState;
 
-// The hash of the bytes at an extent and of the real links of the object packed last.
-fn last_hash(s: &SerializerState, at: Extent) -> u64
-    ensures answer { result ≡ hashed (part (view s.now).memory at.head at.tail) (real_of (first (view s.now).packed)) }
-{
-    s.hash_of(Which::LastPacked, at)
-}
-
 // Releases each packed object that starts below a place, the newest first, and strikes its own pair.
 fn discard_below<R: Register>(s: &mut SerializerState, tail: usize, register: &mut R)
     ensures state { view s.new ≡ left_from tail (view s.old) (R.Register.holds register.old) }
     ensures register { R.Register.holds register.new ≡ (discard (view s.old).memory tail (view s.old).packed (view s.old).pool (R.Register.holds register.old)).register }
 {
+    // A loop, since each turn takes off the object that it looked at and strikes its pair: what the next turn
+    // sees is what this one left.
     while let Some(last) = s.objects.outline(Which::LastPacked)
         && last.extent.head < tail
     {
-        let hash = last_hash(s, last.extent);
+        let hash = s.hash_of(Which::LastPacked, last.extent);
         let number = ObjIdx(s.objects.packed_count() - 1);
         s.objects.unpack();
         register.strike(hash, number);
