@@ -43,6 +43,7 @@ pub fn check_assign<S: CountScalar>(
     ensures state { view s.new ≡ (check_assign at (option_map S.Scalar.bytes (if nat_le count S.CountScalar.most then Some (S.CountScalar.counting count) else None)) flags (view s.old)).0 }
 {
     s.changeable()?;
+    // Written out, since no proof knows what a closure in ok_or_else did to the serializer that it held.
     let Some(value) = S::from_count(count) else {
         return Err(s.flag(flags));
     };

@@ -1,4 +1,5 @@
-// What is asked of the flags that stand, of the open object's length, and of the memory's size.
+// What is asked of the flags that stand, of the open object's length, and of the memory's size. They are functions
+// of the state by which this crate can be used alone; the methods of the type `Serializer` hand on to them.
 ghost use Rattle.std.specs.Prelude.{◌≡◌};
 ghost use Rattle.model.specs.Reading.{error as flags_of, in_error, successful as is_successful, ran_out_of_room, has_offset_overflow, only_offset_overflow, only_overflow, open_length, allocated as allocated_of};
 ghost use Rattle.serializer_state.specs.View.{view};
