@@ -3,6 +3,7 @@ use Rattle.std.proofs.Common.{◌≡◌, ℕ, ◌+◌, ◌-◌, ◌%◌, ◌<◌
 use Rattle.std.proofs.lemmas.Bool.{cases_lt, cases_order, cases_Bool, both_ways}
 use Rattle.register.proofs.Listed.{is_equal}
 use Rattle.register_table.specs.declared.cells.Entry.{Entry}
+use Rattle.register_table.specs.declared.TableRegister.{TableRegister}
 use Rattle.register_table.specs.Round.{ahead, far}
 use Rattle.register_table.specs.Cells.{full, has, filled, times, begin, way, Open, Reached}
 use Rattle.register_table.proofs.Round.{far_less, ahead_far, far_following, following_less}
@@ -14,6 +15,10 @@ OpenOf n cs s t = (j : ℕ) → j < t → full (get_or cs (ahead n s j) None) �
 
 abbrev pub ReachedOf : ℕ → List (Option Entry) → ℕ → Type 0
 ReachedOf n cs k = OpenOf n cs (begin n (get_or cs k None)) (way n k (get_or cs k None))
+
+-- the table's own facts leave a cell free
+pub some_free : (t : TableRegister) → filled t.cells.items < length t.cells.items
+some_free t = omega (arith, t.counted, t.within, t.larger)
 
 pub home_less : (cs : List (Option Entry)) (h : ℕ) → filled cs < length cs → h % length cs < length cs
 home_less cs h some = mod-lt h (omega arith)

@@ -7,7 +7,6 @@ ghost use Rattle.register_table.specs.Laws.{counted_cells};
 use crate::TableRegister;
 use crate::cells::Entry;
 use crate::gap::vacate;
-use crate::probe::{least, seek};
 use link::ObjIdx;
 use register::Register;
 use std::alloc::{AllocError, Global};
@@ -20,6 +19,7 @@ impl TableRegister {
         ensures register { IfOk result (λ t. meaning t ≡ empty capacity) }
         ensures cells { IfOk result (λ t. width t ≡ max cells (capacity + 1)) }
     {
+        // At the largest capacity this is not one more, but then no memory holds so many cells, and the Vec is refused.
         let least = capacity.saturating_add(1);
         let cells = vec![in heap; None; cells.max(least)]?;
         Ok(TableRegister {
@@ -37,7 +37,7 @@ impl Register for TableRegister {
 
     fn enter(&mut self, hash: u64, number: ObjIdx) -> bool {
         let entry = Entry { hash, number };
-        let Err(at) = seek(&self.cells, entry) else {
+        let Err(at) = self.seek(entry) else {
             return true;
         };
         if self.count == self.capacity {
@@ -49,14 +49,14 @@ impl Register for TableRegister {
     }
 
     fn strike(&mut self, hash: u64, number: ObjIdx) {
-        if let Ok(at) = seek(&self.cells, Entry { hash, number }) {
+        if let Ok(at) = self.seek(Entry { hash, number }) {
             vacate(&mut self.cells, at);
             self.count -= 1;
         }
     }
 
     fn next(&self, hash: u64, from: ObjIdx) -> Option<ObjIdx> {
-        least(&self.cells, hash, from)
+        self.least(hash, from)
     }
 
     fn capacity(&self) -> usize {

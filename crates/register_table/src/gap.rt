@@ -7,7 +7,8 @@ ghost use Rattle.register_table.specs.Shift.{shifted, gap_after, Without};
 
 use crate::cells::{Entry, distance, following, home};
 
-// Takes the pair of a cell out.
+// Takes the pair of a cell out. What the table says of itself does not hold while pairs move, so this is no method of
+// it, and asks for what it needs of that.
 pub(crate) fn vacate(cells: &mut [Option<Entry>], start: usize)
     requires within { start < length cells.old }
     requires held { full (slice_index_or cells.old start None) ≡ true }

@@ -13,21 +13,21 @@ pair h n = record { hash = h; number = n }
 pub returns-in_default : goal.returns-in_default
 returns-in_default c =
     let cs = c.args.self.now.cells.items in
-    let f = rw c.deref.ensures.value at c.in_default.ensures in
+    let f = c.in_default.ensures in
     let held = among_some cs c.args.hash c.args.number.0 c.in_default.field-0 f.0 f.1 in
     record { answer = sym (fits_held (entries cs) _ _ _ held); register = entered_held (entries cs) _ _ _ held }
 
 pub returns-then-self : goal.returns-then-self
 returns-then-self c =
     let cs = c.args.self.now.cells.items in
-    let f = rw c.deref.ensures.value at c.in-Err.ensures in
+    let f = c.in-Err.ensures in
     let none = among_none cs c.args.hash c.args.number.0 f.2 in
     let at-capacity : c.args.self.now.capacity ≤ length (entries cs) = omega (arith, length_entries cs, c.args.self.now.counted, c.if-self.true) in
     record { answer = sym (fits_full (entries cs) _ _ _ none at-capacity); register = entered_full (entries cs) _ _ _ none at-capacity }
 
 pub invariant_of-self : goal.invariant_of-self
 invariant_of-self c =
-    let t = put c.args.self.now.cells.items c.in-Err.at (pair c.args.hash c.args.number) c.args.self.now.reached c.args.self.now.once (rw c.deref.ensures.value at c.in-Err.ensures) in
+    let t = put c.args.self.now.cells.items c.in-Err.at (pair c.args.hash c.args.number) c.args.self.now.reached c.args.self.now.once c.in-Err.ensures in
     record {
       reached = t.reached;
       once = t.once;
@@ -39,7 +39,7 @@ invariant_of-self c =
 pub returns : goal.returns
 returns c =
     let cs = c.args.self.now.cells.items in
-    let t = put cs c.in-Err.at (pair c.args.hash c.args.number) c.args.self.now.reached c.args.self.now.once (rw c.deref.ensures.value at c.in-Err.ensures) in
+    let t = put cs c.in-Err.at (pair c.args.hash c.args.number) c.args.self.now.reached c.args.self.now.once c.in-Err.ensures in
     record {
       answer = sym (fits_new (entries cs) _ _ _ (omega (arith, length_entries cs, c.args.self.now.counted)));
       register = t.enters _ (omega (arith, c.args.self.now.counted));

@@ -9,12 +9,12 @@ use Rattle.register_table.proofs.calls.TableRegisterRegister.strike.Goals as goa
 pub returns-in_default : goal.returns-in_default
 returns-in_default c =
     let cs = c.args.self.now.cells.items in
-    let f = rw c.deref.ensures.value at c.in_default.ensures in
+    let f = c.in_default.ensures in
     record { register = struck_none (entries cs) _ _ _ (among_none cs c.args.hash c.args.number.0 f.2) }
 
 pub invariant_of-self : goal.invariant_of-self
 invariant_of-self c =
-    let t = out c.args.self.now.cells.items c.vacate.new.cells c.in-Ok.at c.args.hash c.args.number.0 c.args.self.now.once (rw c.deref.ensures.value at c.in-Ok.ensures) (rw c.deref_mut.ensures.value at c.vacate.ensures.pairs) in
+    let t = out c.args.self.now.cells.items c.vacate.new.cells c.in-Ok.at c.args.hash c.args.number.0 c.args.self.now.once c.in-Ok.ensures (rw c.deref_mut.ensures.value at c.vacate.ensures.pairs) in
     let same = with_items_is c.args.self.now.cells c.vacate.new.cells (omega arith) in
     record {
       reached = λ k. subst (λ xs. Reached xs k) (sym same) (c.vacate.ensures.reached k);
@@ -26,6 +26,6 @@ invariant_of-self c =
 
 pub returns-in-Ok : goal.returns-in-Ok
 returns-in-Ok c =
-    let t = out c.args.self.now.cells.items c.vacate.new.cells c.in-Ok.at c.args.hash c.args.number.0 c.args.self.now.once (rw c.deref.ensures.value at c.in-Ok.ensures) (rw c.deref_mut.ensures.value at c.vacate.ensures.pairs) in
+    let t = out c.args.self.now.cells.items c.vacate.new.cells c.in-Ok.at c.args.hash c.args.number.0 c.args.self.now.once c.in-Ok.ensures (rw c.deref_mut.ensures.value at c.vacate.ensures.pairs) in
     let same = with_items_is c.args.self.now.cells c.vacate.new.cells (omega arith) in
     record { register = ap (λ xs. pairs_of (entries xs) c.args.self.now.capacity) same ∙ t.strikes _ }
