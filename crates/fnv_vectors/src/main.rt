@@ -28,6 +28,7 @@ static VECTORS: [Vector<'static>; 16] = [
 ];
 
 fn main(rt: HostRuntime) -> anyhow::Result<()> {
+    // A loop: `find` would name the vector that differs, and its hash would be taken a second time to print it.
     for Vector(text, published) in &VECTORS {
         let hash = fnv1a(text);
         if hash != *published {

@@ -12,7 +12,7 @@ pub(crate) struct Cell {
     pub(crate) next: usize,
 }
 
-// Where there are none, the first and the last say nothing.
+// Where there are none, the first and the last say nothing: the count tells, and an Option of both would tell it twice.
 #[derive(Clone, Copy)]
 pub(crate) struct Chain {
     pub(crate) first: usize,
@@ -33,7 +33,7 @@ impl Chain {
         requires within { n < self.count }
         ensures answer { result ≡ hop (nexts cells.now) self.first n }
     {
-        // A loop: a fold's closure would not know that the cell it is at is inside.
+        // A loop: nothing would tell a fold's closure that the cell it is at is inside.
         let mut at = self.first;
         for _ in 0..n {
             at = cells[at].next;

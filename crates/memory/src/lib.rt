@@ -1,5 +1,5 @@
 // Parts of the serializer's memory: looked at, compared, hashed, written, cleared and moved over themselves.
-// What changes them answers a bool: there is one way to decline, a range past the end, which the caller knows.
+// What changes them answers a bool: all that declines is a range that is not within the memory, which the caller can tell.
 #![tactic(auto)]
 
 ghost use Rattle.std.specs.Prelude.{◌≡◌, length, take, replicate, if◌then◌else◌};

@@ -21,7 +21,7 @@ pub enum Limit {
 }
 
 impl Limit {
-    // The number by which it is reported: a method, since `u8::from` would not say which number it gives.
+    // The number by which it is reported, under the name that the list of refusals has for it.
     pub fn number(self) -> u8
         ensures answer { result ≡ limit_number self }
     {

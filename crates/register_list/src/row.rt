@@ -39,7 +39,7 @@ pub(crate) fn first_under(rows: &[Row], hash: u64) -> Option<ObjIdx>
         .map(|row| row.number)
 }
 
-// Puts a row in where there is capacity for it: nothing is allocated.
+// Puts a row in where there is capacity for it: nothing is allocated. It takes the vector, whose length grows.
 pub(crate) fn put(rows: &mut Vec<Row>, at: usize, row: Row)
     requires within { at ≤ vec_len rows.old }
     requires reserved { vec_len rows.old < vec_capacity rows.old }

@@ -46,7 +46,8 @@ impl Random {
     }
 }
 
-// The whole content, by every `next` that the ranges allow.
+// The whole content, by every `next` that the ranges allow. The hashes are a loop: one chain over both ranges would be
+// no plainer.
 fn sweep(both: &mut Both, ranges: &Ranges) -> Result<(), Difference> {
     for i in 0..ranges.hashes {
         let hash = ranges.first_hash.wrapping_add(i);

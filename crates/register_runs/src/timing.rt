@@ -46,6 +46,7 @@ fn stretch<R: Register>(register: &mut R, first: u64) -> u64 {
     declined
 }
 
+// Each stretch changes the register and is told as it ends, so the stretches are a loop.
 fn time<R: Register>(rt: &HostRuntime, name: &str, register: &mut R) -> anyhow::Result<()> {
     for i in 0..HELD {
         let _ = enter_nth(register, i);

@@ -56,8 +56,8 @@ fn revert<R: Register>(s: &mut Serializer, register: &mut R, snapshot: Option<Sn
 }
 
 // Makes a call, after those that gave these answers. It fails only for want of memory for the bytes that a
-// call answers.
-// The serializer and the answers come apart and not as an outcome: the answers are lent while it changes.
+// call answers. The serializer and the answers are two parameters and no outcome, since the answers are lent while the
+// serializer changes.
 pub(crate) fn step<R: Register>(
     heap: Global,
     s: &mut Serializer,

@@ -44,7 +44,7 @@ pub fn add_link(
     ensures state { view s.new ≡ (add_link from to objidx whence bias is_signed (view s.old)).0 }
 {
     s.ready()?;
-    // On a line of its own, since no field of the state may be lent while the call of `found` holds the state.
+    // On a line of its own: a field cannot be lent in the arguments of `found`, which holds the whole state.
     let innermost = s.objects.outline(Which::Innermost);
     let object = s.found(innermost)?;
     let field = s.found(field_in(object.extent.head, from..to))?;

@@ -48,7 +48,7 @@ pub fn repack_last(s: &mut SerializerState, objidx: ObjIdx) -> Result<(), Serial
     ensures state { view s.new ≡ (repack_last objidx (view s.old)).0 }
 {
     s.changeable()?;
-    // On a line of its own, since no field of the state may be lent while the call of `found` holds the state.
+    // On a line of its own: a field cannot be lent in the arguments of `found`, which holds the whole state.
     let innermost = s.objects.outline(Which::Innermost);
     let object = s.found(innermost)?;
     order_all(s, objidx, object.num_real_links)

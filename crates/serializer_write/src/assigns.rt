@@ -28,6 +28,7 @@ pub fn copy_assign<S: Scalar>(s: &mut SerializerState, at: usize, value: S)
     ensures state { view s.new ≡ copy_assign at (S.Scalar.bytes value) (view s.old) }
     ensures fits { S.Scalar.fits value }
 {
+    // From 0 and not `..S::size()`, for which no proof was found.
     let raw = value.raw();
     copy_assign_from_bytes(s, at, &raw[0..S::size()])
 }

@@ -52,6 +52,7 @@ pub fn embed<S: Scalar>(s: &mut SerializerState, value: S) -> Result<usize, Seri
     ensures state { view s.new ≡ (embedded (S.Scalar.bytes value) (view s.old)).0 }
     ensures fits { S.Scalar.fits value }
 {
+    // From 0 and not `..S::size()`, for which no proof was found.
     let raw = value.raw();
     embed_bytes(s, &raw[0..S::size()])
 }

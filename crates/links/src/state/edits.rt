@@ -1,6 +1,7 @@
 // What makes lists and changes them. None but `new` allocates, and each takes constant time but `new`, `cut`
-// and `clear_all`, since it moves whole chains or one cell. What changes a list answers a bool, as a set of the library
-// does: no caller tells one way to decline from another, and a let-else hands it on where `?` has no bool to hand on.
+// and `clear_all`, since a change moves whole chains or one cell. Each says by itself that no cell is lost, since their
+// number is read off the struct that changes. What changes a list answers a bool, as a set of the library does: no caller
+// tells one way to decline from another, and a let-else hands it on where `?` has no bool to hand on.
 ghost use Rattle.std.specs.Prelude.{◌≡◌, ◌+◌, map, not, ◌&&◌, [], ◌∷◌, ◌++◌, length, take, replicate, IfOk, if◌then◌else◌, ◌==◌, nat_lt, slice_set};
 ghost use Rattle.std.specs.List.{range_with_len};
 ghost use Rattle.links.specs.Meaning.{lists, list_at, is_list, used, cells, no_link};

@@ -71,7 +71,8 @@ impl Objects {
     pub fn real_links(&self, which: Which) -> LinkIter<'_>
         ensures answer { rest result ≡ real_of (chosen which (contents self.now)) }
     {
-        // A way with no links is one through a list that is not there, as the one past the last.
+        // A way with no links is one through a list that is not there, as the one past the last: a function of `Links` for
+        // this caller alone would be no plainer.
         let list = self.list_of(which, Kind::Real);
         self.links.iter(list.unwrap_or(2 * self.extents.len()))
     }

@@ -1,4 +1,5 @@
-// Slots found on the stacks, taken from them and put on them.
+// Slots found on the stacks, taken from them and put on them. A slot that is on no stack is `Loose`, which is one fact and
+// is said wherever such a slot is handed on.
 ghost use Rattle.std.specs.Prelude.{◌≡◌, ◌<◌, [], is_some, IfSome, if◌then◌else◌};
 ghost use Rattle.std.specs.Option.{option_map};
 ghost use Rattle.model.specs.State.{slot_free, slot_next};

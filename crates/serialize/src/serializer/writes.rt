@@ -57,7 +57,8 @@ impl Serializer {
         serializer_write::copy_assign_from_bytes(&mut self.state, pos, from_bytes)
     }
 
-    // Assigns a count from a place on; one that the scalar cannot hold sets the flags that the caller names.
+    // Assigns a count from a place on; one that the scalar cannot hold sets the flags that the caller names. The
+    // parameters are those of the Rust crate's method.
     pub fn check_assign<S: CountScalar>(
         &mut self,
         pos: usize,

@@ -1,5 +1,5 @@
 // Changes of one part: bytes of the memory, and the places of head and tail. Each answers by a bool whether it
-// was made, since there is one reason to decline it, which the caller can tell beforehand.
+// was made, since the caller can tell beforehand why it would be declined.
 ghost use Rattle.std.specs.Prelude.{◌≡◌, length, replicate, if◌then◌else◌};
 ghost use Rattle.scalar.specs.Place.{room, write};
 ghost use Rattle.model.specs.State.{with_memory, with_cursor};
