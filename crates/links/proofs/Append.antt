@@ -11,7 +11,7 @@ use Rattle.links.proofs.Walk.{walk_length, get_or_walk, occ_get_or, occ_here, oc
 use Rattle.links.proofs.Place.{agree_all}
 use Rattle.links.proofs.Wiring.{Wired, same_wired, apart, inside, spread, shed, parts, front_ends, back_ends}
 use Rattle.links.proofs.Join.{join_table, join_wired}
-use Rattle.links.proofs.Reading.{links_of, nexts_of, chains_of, cells_linked, cells_held, At, wired, no_list, a_list, used_is, list_is}
+use Rattle.links.proofs.Reading.{links_of, nexts_of, chains_of, At, wired, no_list, a_list, used_is, list_is}
 
 pub refuse_list : (s : Links) (c : ℕ) → vec_len s.chains ≤ c → false ≡ (is_list s c && ltb (used s) (cells s))
 refuse_list s c h = sym (and_left (is_list s c) (ltb (used s) (cells s)) (sym (no_list s c h)))
@@ -43,9 +43,9 @@ free_cell s some =
     let is : get_or (nodes ns f) 0 0 ≡ f.first = get_or_walk ns f.first f.count 0 some in
     subst (λ (k : ℕ). 1 ≤ occ k (nodes ns f)) is (occ_get_or (nodes ns f) 0 (omega (arith, walk_length ns f.first f.count)))
 
-pub free_in : (s : Links) → 0 < s.free.count → s.free.first < vec_len s.cells
+pub free_in : (s : Links) → 0 < s.free.count → s.free.first < vec_len s.links
 free_in s some =
-    omega (arith, inside (nexts_of s) (s.free ∷ chains_of s) 0 s.free.first s.free s.once (omega arith) (free_cell s some), cells_linked s)
+    omega (arith, inside (nexts_of s) (s.free ∷ chains_of s) 0 s.free.first s.free s.once (omega arith) (free_cell s some), s.sized, s.nexts.ok.0)
 
 -- it is in no list
 not_listed : (s : Links) (e : ℕ) (d : Chain) → 0 < s.free.count → e < length (chains_of s) → occ s.free.first (nodes (nexts_of s) (get_or (chains_of s) e d)) ≡ 0
@@ -96,7 +96,7 @@ module _ (s : Links) (c : ℕ) (x one rest y : Chain) (ms : List ℕ) (at : At s
       let ls : List Link = links_of s in
       let k : ℕ = s.free.first in
       let hc : c < length (chains_of s) = omega (arith, at.within, s.chains.ok.0) in
-      let hk : k < length ls = omega (arith, free_in s some, cells_held s) in
+      let hk : k < length ls = omega (arith, free_in s some, s.links.ok.0) in
       let old : occ k (nodes ns x) ≡ 0 = subst (λ (t : Chain). occ k (nodes ns t) ≡ 0) (sym at.read) (not_listed s c x some hc) in
       map-append (λ m. get_or (set ls k v) m no_link) (nodes ns x) (k ∷ [])
       ∙ ap (λ (t : List Link). t ++ get_or (set ls k v) k no_link ∷ []) (links_frame ls k v (nodes ns x) old ∙ sym (list_is s c x at))
@@ -114,12 +114,11 @@ module _ (s : Links) (c : ℕ) (x one rest y : Chain) (ms : List ℕ) (at : At s
       let h' : e < length chs = omega (arith, length-map chs (nodes ns)) in
       links_frame (links_of s) k v (get_or (table ns chs) e d) (ap (occ k) (get_or-map (nodes ns) chs e x d h') ∙ not_listed s e x some h'))
 
-  -- ls are the links of the cells, with the new one
-  pub append_lists : (v : Link) (ls : List Link) → ls ≡ set (links_of s) one.first v → meaning ls ms (set (chains_of s) c y) ≡ set (lists s) c (list_at s c ++ v ∷ [])
-  append_lists v ls_now e =
+  pub append_lists : (v : Link) → meaning (set (links_of s) one.first v) ms (set (chains_of s) c y) ≡ set (lists s) c (list_at s c ++ v ∷ [])
+  append_lists v =
       let ls : List Link = links_of s in
       let k : ℕ = s.free.first in
       let t : List (List ℕ) = table (nexts_of s) (chains_of s) in
       let ks : List ℕ = nodes (nexts_of s) x ++ k ∷ [] in
-      ap (λ (l : List Link). meaning l ms (set (chains_of s) c y)) e ∙ ap (λ (o : Chain). meaning (set ls o.first v) ms (set (chains_of s) c y)) is_one ∙ ap (map (links_at (set ls k v))) append_table
+      ap (λ (o : Chain). meaning (set ls o.first v) ms (set (chains_of s) c y)) is_one ∙ ap (map (links_at (set ls k v))) append_table
       ∙ map-set (links_at (set ls k v)) t c ks ∙ ap (λ (u : List (List Link)). set u c (links_at (set ls k v) ks)) (unchanged v) ∙ ap (set (lists s) c) (listed v)

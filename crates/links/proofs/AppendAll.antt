@@ -10,7 +10,7 @@ use Rattle.links.specs.Meaning.{lists, list_at, is_list, links_at, meaning, no_l
 use Rattle.links.proofs.Place.{two_le}
 use Rattle.links.proofs.Wiring.{Wired, same_wired}
 use Rattle.links.proofs.Join.{join_table, join_wired}
-use Rattle.links.proofs.Reading.{links_of, nexts_of, chains_of, cells_linked, At, wired, no_list, a_list, list_is}
+use Rattle.links.proofs.Reading.{links_of, nexts_of, chains_of, At, wired, no_list, a_list, list_is}
 
 pub not_first : (s : Links) (a b : ℕ) → vec_len s.chains ≤ a → false ≡ (is_list s a && (is_list s b && not (eqb a b)))
 not_first s a b h = sym (and_left (is_list s a) (is_list s b && not (eqb a b)) (sym (no_list s a h)))
@@ -37,9 +37,9 @@ module _ (s : Links) (a b : ℕ) (x y z : Chain) (ms : List ℕ) (at_a : At s a 
   hb : b < length (chains_of s)
   hb = omega (arith, at_b.within, s.chains.ok.0)
 
-  pub all_fits : x.count + y.count ≤ vec_len s.cells
+  pub all_fits : x.count + y.count ≤ vec_len s.nexts
   all_fits =
-      omega (arith, s.filled, cells_linked s, ap (λ (t : Chain). t.count) at_a.read, ap (λ (t : Chain). t.count) read_b, two_le (λ (ch : Chain). ch.count) (chains_of s) a b x ha hb ne)
+      omega (arith, s.filled, s.nexts.ok.0, ap (λ (t : Chain). t.count) at_a.read, ap (λ (t : Chain). t.count) read_b, two_le (λ (ch : Chain). ch.count) (chains_of s) a b x ha hb ne)
 
   linked_is : linked (nexts_of s) (get_or (chains_of s) a x) (get_or (chains_of s) b x) ≡ ms
   linked_is =
@@ -65,10 +65,9 @@ module _ (s : Links) (a b : ℕ) (x y z : Chain) (ms : List ℕ) (at_a : At s a 
       ∙ ap (λ (u : Chain). set (set t a (nodes ns u ++ nodes ns (get_or chs b x))) b []) (sym at_a.read)
       ∙ ap (λ (u : Chain). set (set t a (nodes ns x ++ nodes ns u)) b []) (sym read_b)
 
-  -- ls are the links of the cells, which stay
-  pub all_lists : (ls : List Link) → ls ≡ links_of s → meaning ls ms (set (set (chains_of s) a z) b no_chain) ≡ set (set (lists s) a (list_at s a ++ list_at s b)) b []
+  pub all_lists : meaning (links_of s) ms (set (set (chains_of s) a z) b no_chain) ≡ set (set (lists s) a (list_at s a ++ list_at s b)) b []
   unfolding lists
-  all_lists ls_now e =
+  all_lists =
       let ns : List ℕ = nexts_of s in
       let ls : List Link = links_of s in
       let t : List (List ℕ) = table ns (chains_of s) in
@@ -76,4 +75,4 @@ module _ (s : Links) (a b : ℕ) (x y z : Chain) (ms : List ℕ) (at_a : At s a 
       let both : links_at ls w ≡ list_at s a ++ list_at s b =
       map-append (λ k. get_or ls k no_link) (nodes ns x) (nodes ns y) ∙ ap (λ (u : List Link). u ++ links_at ls (nodes ns y)) (sym (list_is s a x at_a))
       ∙ ap (λ (u : List Link). list_at s a ++ u) (sym (list_is s b y at_b)) in
-      ap (λ (l : List Link). meaning l ms (set (set (chains_of s) a z) b no_chain)) e ∙ ap (map (links_at ls)) all_table ∙ map-set (links_at ls) (set t a w) b [] ∙ ap (λ (u : List (List Link)). set u b []) (map-set (links_at ls) t a w) ∙ ap (λ (u : List Link). set (set (lists s) a u) b []) both
+      ap (map (links_at ls)) all_table ∙ map-set (links_at ls) (set t a w) b [] ∙ ap (λ (u : List (List Link)). set u b []) (map-set (links_at ls) t a w) ∙ ap (λ (u : List Link). set (set (lists s) a u) b []) both

@@ -45,11 +45,10 @@ module _ (s : Links) (c n : ℕ) (x keep rest y : Chain) (ms : List ℕ) (at : A
       let kept : nodes ns keep ≡ take n (nodes ns x) = ap (nodes ns) is_keep ∙ front_nodes ns x n short in
       ap (λ (m : List ℕ). table m chs) is_ms ∙ same ∙ map-set (nodes ns) (chains_of s) c keep ∙ ap (set (table ns (chains_of s)) c) kept
 
-  -- ls are the links of the cells, which stay
-  pub cut_lists : (ls : List Link) → ls ≡ links_of s → meaning ls ms (set (chains_of s) c keep) ≡ set (lists s) c (take n (list_at s c))
+  pub cut_lists : meaning (links_of s) ms (set (chains_of s) c keep) ≡ set (lists s) c (take n (list_at s c))
   unfolding lists
-  cut_lists ls_now e =
+  cut_lists =
       let ls : List Link = links_of s in
       let ks : List ℕ = nodes (nexts_of s) x in
-      ap (λ (l : List Link). meaning l ms (set (chains_of s) c keep)) e ∙ ap (map (links_at ls)) cut_table ∙ map-set (links_at ls) (table (nexts_of s) (chains_of s)) c (take n ks)
+      ap (map (links_at ls)) cut_table ∙ map-set (links_at ls) (table (nexts_of s) (chains_of s)) c (take n ks)
       ∙ ap (set (lists s) c) (sym (take-map (λ k. get_or ls k no_link) n ks) ∙ ap (take n) (sym (list_is s c x at)))

@@ -4,26 +4,19 @@ use Rattle.std.proofs.lemmas.List.{get_or-replicate, length-replicate}
 use Rattle.std.proofs.lemmas.Bool.{cases_eq, cases_lt, lt-ltb, le-ltb}
 use Rattle.std.proofs.lemmas.List.FromFn.{length-map-range_with_len, get_or-map-range_with_len}
 use Rattle.std.specs.List.{range_with_len}
-use Rattle.links.specs.declared.chains.Cell.{Cell}
 use Rattle.links.specs.declared.chains.Chain.{Chain}
 use Rattle.link.specs.declared.Link.{Link}
-use Rattle.links.specs.Cells.{nexts}
 use Rattle.links.specs.Walk.{walk, nodes, table, last_of, occ, sum_of, Once, Ends, Ended, Filled, no_chain}
-use Rattle.links.specs.Meaning.{links_at, meaning, no_link}
-use Rattle.links.proofs.Cells.{next_at}
+use Rattle.links.specs.Meaning.{links_at, meaning}
 use Rattle.links.proofs.Walk.{occ_here, occ_other}
 use Rattle.links.proofs.Wiring.{Wired}
 
 -- cells in one row, as many as n
-pub row_length : (cs : List Cell) (n : ℕ) → cs ≡ map (λ i. record { link = no_link; next = i + 1 }) (range_with_len 0 n) → length cs ≡ n
-row_length cs n e = ap length e ∙ length-map-range_with_len (λ i. record { link = no_link; next = i + 1 }) 0 n
+pub row_length : (ns : List ℕ) (n : ℕ) → ns ≡ map (λ i. i + 1) (range_with_len 0 n) → length ns ≡ n
+row_length ns n e = ap length e ∙ length-map-range_with_len (λ i. i + 1) 0 n
 
-pub row_steps : (cs : List Cell) (n : ℕ) → cs ≡ map (λ i. record { link = no_link; next = i + 1 }) (range_with_len 0 n) → (k : ℕ) → k < n → get_or (nexts cs) k 0 ≡ k + 1
-row_steps cs n e k h =
-    let d : Cell = record { link = no_link; next = 0 } in
-    sym (next_at cs k d (omega (arith, row_length cs n e)))
-    ∙ ap (λ (l : List Cell). (get_or l k d).next) e
-    ∙ ap (λ (x : Cell). x.next) (get_or-map-range_with_len (λ i. record { link = no_link; next = i + 1 }) 0 n k k d h (omega arith))
+pub row_steps : (ns : List ℕ) (n : ℕ) → ns ≡ map (λ i. i + 1) (range_with_len 0 n) → (k : ℕ) → k < n → get_or ns k 0 ≡ k + 1
+row_steps ns n e k h = ap (λ (l : List ℕ). get_or l k 0) e ∙ get_or-map-range_with_len (λ i. i + 1) 0 n k k 0 h (omega arith)
 
 walk_up : (ns : List ℕ) (s n : ℕ) → ((k : ℕ) → s ≤ k → k < s + n → get_or ns k 0 ≡ k + 1) → walk ns s n ≡ range_with_len s n
 walk_up ns s zero h = refl

@@ -1,28 +1,26 @@
 -- What is read of a chain, by the list of links that it means.
-use Rattle.std.proofs.Common.{◌≡◌, ℕ, suc, ◌+◌, ◌-◌, ◌<◌, ◌≤◌, true, false, ◌⊎◌, List, [], ◌∷◌, length, get_or, set, Some, None, vec_items, vec_len, Option, sym, refl, ap, ◌∙◌, subst, inl, inr, arith}
+use Rattle.std.proofs.Common.{◌≡◌, ℕ, suc, ◌+◌, ◌-◌, ◌<◌, ◌≤◌, true, false, ◌⊎◌, List, [], ◌∷◌, length, get_or, set, Some, None, Vec, vec_items, vec_len, Option, sym, refl, ap, ◌∙◌, subst, inl, inr, arith}
 use Rattle.std.proofs.Math.ListN.{get_or-map}
-use Rattle.std.proofs.lemmas.List.{get_or-map as get_or-map_within, get_or_read, length-map, get_or_past, set-get_or}
+use Rattle.std.proofs.lemmas.List.{get_or_default, get_or-map as get_or-map_within, get_or_read, length-map, get_or_past, set-get_or, with_items_is}
 use Rattle.std.proofs.lemmas.Bool.{lt-ltb, le-ltb, cases_lt}
 use Rattle.std.proofs.lemmas.Option.{slice_get-get_or, slice_get_past, slice_get_within, get_or_from_slice_get, slice_get-map}
 use Rattle.std.specs.List.{slice_get}
 use Rattle.std.specs.Option.{option_map}
+use Rattle.std.specs.Vec.{with_items}
 use Rattle.link.specs.declared.Link.{Link}
 use Rattle.links.specs.declared.chains.Chain.{Chain}
-use Rattle.links.specs.declared.chains.Cell.{Cell}
 use Rattle.links.specs.declared.state.Links.{Links}
-use Rattle.links.specs.Cells.{nexts, held}
 use Rattle.links.specs.Walk.{hop, nodes, table, last_of, occ, Ends, Inside, no_chain}
 use Rattle.links.specs.Meaning.{lists, list_at, is_list, used, links_at, no_link}
-use Rattle.links.proofs.Cells.{nexts_length, held_length, link_read}
 use Rattle.links.proofs.Walk.{walk_length, get_or_walk, last_walk}
 use Rattle.links.proofs.Place.{sum_of_map, sum_of_same, part_le}
 use Rattle.links.proofs.Wiring.{Wired, inside, last_in, chain_inside}
 
 abbrev pub links_of : Links → List Link
-links_of s = held (vec_items s.cells)
+links_of s = vec_items s.links
 
 abbrev pub nexts_of : Links → List ℕ
-nexts_of s = nexts (vec_items s.cells)
+nexts_of s = vec_items s.nexts
 
 abbrev pub chains_of : Links → List Chain
 chains_of s = vec_items s.chains
@@ -40,11 +38,12 @@ found s c x e = record { within = omega (arith, slice_get_within (chains_of s) c
 pub put_back : (s : Links) (c : ℕ) (x : Chain) → At s c x → set (chains_of s) c x ≡ chains_of s
 put_back s c x at = ap (set (chains_of s) c) at.read ∙ set-get_or (chains_of s) c x
 
-pub cells_linked : (s : Links) → length (nexts_of s) ≡ vec_len s.cells
-cells_linked s = nexts_length (vec_items s.cells) ∙ sym s.cells.ok.0
+-- a Vec lends its cells as xs, and gets ys back
+pub lent_back : {Z : Type 0} (v : Vec ℕ Z) (xs ys : List ℕ) → xs ≡ vec_items v → length ys ≡ length xs → (f : List ℕ → List ℕ) → ys ≡ f xs → vec_items (with_items v ys) ≡ f (vec_items v)
+lent_back v xs ys lent long f e = with_items_is v ys (long ∙ ap length lent ∙ sym v.ok.0) ∙ e ∙ ap f lent
 
-pub cells_held : (s : Links) → length (links_of s) ≡ vec_len s.cells
-cells_held s = held_length (vec_items s.cells) ∙ sym s.cells.ok.0
+pub cells_linked : (s : Links) → length (nexts_of s) ≡ vec_len s.nexts
+cells_linked s = sym s.nexts.ok.0
 
 pub wired : (s : Links) → Wired (nexts_of s) (s.free ∷ chains_of s)
 wired s = record { once = s.once; ended = s.ended; filled = s.filled }
@@ -101,7 +100,7 @@ get_short s c i short = sym (slice_get_past (list_at s c) i (go (cases_lt c (len
     go (inr h) = omega (arith, list_at_length s c, ap (λ (x : Chain). x.count) (get_or_past (chains_of s) c no_chain h))
 
 -- the cells in use are those that are not free
-pub used_is : (s : Links) → used s + s.free.count ≡ vec_len s.cells
+pub used_is : (s : Links) → used s + s.free.count ≡ vec_len s.nexts
 unfolding lists
 used_is s =
     let ns : List ℕ = nexts_of s in
@@ -119,7 +118,7 @@ used_is s =
 pub free_inside : (s : Links) → Inside (nexts_of s) s.free
 free_inside s = chain_inside (nexts_of s) (s.free ∷ chains_of s) 0 s.free s.once (omega arith)
 
-pub free_last : (s : Links) → 0 < s.free.count → s.free.last < vec_len s.cells
+pub free_last : (s : Links) → 0 < s.free.count → s.free.last < vec_len s.nexts
 free_last s h =
     let ns : List ℕ = nexts_of s in
     let f : Chain = s.free in
@@ -143,32 +142,33 @@ module _ (s : Links) (c : ℕ) (x : Chain) (at : At s c x) where
   pub read_ends : Ends (nexts_of s) x
   read_ends = subst (Ends (nexts_of s)) (sym at.read) (s.ended (suc c) x (omega (arith, at.within, s.chains.ok.0)))
 
-  pub read_last : 0 < x.count → x.last < vec_len s.cells
+  pub read_last : 0 < x.count → x.last < vec_len s.nexts
   read_last h =
       let ns : List ℕ = nexts_of s in
       let there : 1 ≤ occ x.last (nodes ns (get_or (chains_of s) c x)) = subst (λ (t : Chain). 1 ≤ occ x.last (nodes ns t)) at.read (last_in ns x.first x.count x.last h read_ends) in
       omega (arith, cells_linked s, inside ns (s.free ∷ chains_of s) (suc c) x.last x s.once (omega (arith, at.within, s.chains.ok.0)) there)
 
   -- its cells and the free ones are no more than there are
-  pub counts_fit : s.free.count + x.count ≤ vec_len s.cells
+  pub counts_fit : s.free.count + x.count ≤ vec_len s.nexts
   counts_fit =
       omega (arith, s.filled, cells_linked s, ap (λ (t : Chain). t.count) at.read, part_le (λ (ch : Chain). ch.count) (chains_of s) c x (omega (arith, at.within, s.chains.ok.0)))
 
   -- k lies i steps past the first
-  pub step_within : (i k : ℕ) → i < x.count → k ≡ hop (nexts_of s) x.first i → k < vec_len s.cells
+  pub step_within : (i k : ℕ) → i < x.count → k ≡ hop (nexts_of s) x.first i → k < vec_len s.nexts
   step_within i k h e = omega (arith, e, read_inside i h, cells_linked s)
 
-  -- the cell v was read there
-  pub get_some : (i k : ℕ) (v : Cell) → i < x.count → k ≡ hop (nexts_of s) x.first i → v ≡ get_or (vec_items s.cells) k v → Some v.link ≡ slice_get (list_at s c) i
+  -- the link v was read there
+  pub get_some : (i k : ℕ) (v : Link) → i < x.count → k ≡ hop (nexts_of s) x.first i → v ≡ get_or (links_of s) k v → Some v ≡ slice_get (list_at s c) i
   get_some i k v h e r =
       let ns : List ℕ = nexts_of s in
       let ls : List Link = links_of s in
+      let in_links : k < length ls = omega (arith, step_within i k h e, s.sized, s.links.ok.0) in
       let in_nodes : i < length (nodes ns x) = omega (arith, walk_length ns x.first x.count) in
-      let value : get_or (list_at s c) i no_link ≡ v.link =
+      let value : get_or (list_at s c) i no_link ≡ v =
       ap (λ (l : List Link). get_or l i no_link) list_is
       ∙ get_or-map_within (λ m. get_or ls m no_link) (nodes ns x) i 0 no_link in_nodes
       ∙ ap (λ (m : ℕ). get_or ls m no_link) (get_or_walk ns x.first x.count i h ∙ sym e)
-      ∙ sym (link_read (vec_items s.cells) k v no_link r (omega (arith, step_within i k h e, s.cells.ok.0))) in
+      ∙ get_or_default ls k no_link v in_links ∙ sym r in
       ap {B = Option Link} Some (sym value) ∙ sym (slice_get-get_or (list_at s c) i no_link (omega (arith, list_length)))
 
   -- the last cell lies as many steps past the first as there are links, less one

@@ -1,4 +1,3 @@
-pub mod Cells
 pub mod Walk
 pub mod Meaning
 pub mod Rest

@@ -5,7 +5,6 @@ use Rattle.link.specs.declared.LinkWidth.TheVariants.{Zero}
 use Rattle.link.specs.declared.OffsetWhence.TheVariants.{Head}
 use Rattle.links.specs.declared.chains.Chain.{Chain}
 use Rattle.links.specs.declared.state.Links.{Links}
-use Rattle.links.specs.Cells.{nexts, held}
 use Rattle.links.specs.Walk.{table, sum_of}
 
 -- what is read past the last cell
@@ -22,11 +21,11 @@ meaning ls ns chs = map (links_at ls) (table ns chs)
 
 -- the lists of links, in the order of their numbers
 unfoldable pub lists : Links → List (List Link)
-lists s = meaning (held (vec_items s.cells)) (nexts (vec_items s.cells)) (vec_items s.chains)
+lists s = meaning (vec_items s.links) (vec_items s.nexts) (vec_items s.chains)
 
 -- how many cells there are
 unfoldable pub cells : Links → ℕ
-cells s = vec_len s.cells
+cells s = vec_len s.nexts
 
 -- how many cells hold a link: as many as there are links in all lists
 abbrev pub used : Links → ℕ

@@ -4,10 +4,10 @@
 // tells one way to decline from another, and a let-else hands it on where `?` has no bool to hand on.
 ghost use Rattle.std.specs.Prelude.{◌≡◌, ◌+◌, map, not, ◌&&◌, [], ◌∷◌, ◌++◌, length, take, replicate, IfOk, if◌then◌else◌, ◌==◌, nat_lt, slice_set};
 ghost use Rattle.std.specs.List.{range_with_len};
-ghost use Rattle.links.specs.Meaning.{lists, list_at, is_list, used, cells, no_link};
+ghost use Rattle.links.specs.Meaning.{lists, list_at, is_list, used, cells};
 
 use super::Links;
-use crate::chains::{Cell, Chain};
+use crate::chains::Chain;
 use link::{Link, LinkWidth, ObjIdx, OffsetWhence};
 use std::alloc::{AllocError, Global};
 
@@ -16,15 +16,25 @@ impl Links {
     pub fn new(heap: Global, list_count: usize, cell_count: usize) -> Result<Links, AllocError>
         ensures answer { IfOk result (λ s. (lists s ≡ replicate list_count []) × (cells s ≡ cell_count)) }
     {
-        let cells = row_of_cells(heap, cell_count)?;
+        let blank = Link {
+            width: LinkWidth::Zero,
+            is_signed: false,
+            whence: OffsetWhence::Head,
+            bias: 0,
+            position: 0,
+            objidx: ObjIdx(0),
+        };
+        let links = vec![in heap; blank; cell_count]?;
         let chains = vec![in heap; Chain::EMPTY; list_count]?;
+        let nexts = in_one_row(heap, cell_count)?;
         let free = Chain {
             first: 0,
             last: cell_count.saturating_sub(1),
             count: cell_count,
         };
         Ok(Links {
-            cells,
+            links,
+            nexts,
             free,
             chains,
         })
@@ -35,7 +45,8 @@ impl Links {
         ensures answer { (lists result ≡ []) × (cells result ≡ 0) }
     {
         Links {
-            cells: Vec::new(heap),
+            links: Vec::new(heap),
+            nexts: Vec::new(heap),
             free: Chain::EMPTY,
             chains: Vec::new(heap),
         }
@@ -53,9 +64,9 @@ impl Links {
         let Some(chain) = self.chains.get_mut(list) else {
             return false;
         };
-        let (one, rest) = self.free.split(&self.cells, 1);
-        self.cells[one.first].link = link;
-        *chain = chain.join(&mut self.cells, one);
+        let (one, rest) = self.free.split(&self.nexts, 1);
+        self.links[one.first] = link;
+        *chain = chain.join(&mut self.nexts, one);
         self.free = rest;
         true
     }
@@ -73,8 +84,8 @@ impl Links {
         if n >= chain.count {
             return true;
         }
-        let (keep, rest) = chain.split(&self.cells, n);
-        self.free = self.free.join(&mut self.cells, rest);
+        let (keep, rest) = chain.split(&self.nexts, n);
+        self.free = self.free.join(&mut self.nexts, rest);
         *chain = keep;
         true
     }
@@ -112,23 +123,18 @@ impl Links {
         }
         let front = self.chains[to];
         let back = self.chains[from];
-        self.chains[to] = front.join(&mut self.cells, back);
+        self.chains[to] = front.join(&mut self.nexts, back);
         self.chains[from] = Chain::EMPTY;
         true
     }
 }
 
-// So many cells in one row, each followed by the next; the last is followed by none that there is.
-fn row_of_cells(heap: Global, count: usize) -> Result<Vec<Cell>, AllocError>
-    ensures answer { IfOk result (λ v. v.items ≡ map (λ i. record { link = no_link; next = i + 1 }) (range_with_len 0 count)) }
+// What follows each of so many cells in one row: the next one, and after the last none that there is. The memory for all of
+// them is taken first: `collect` alone goes on with less where it is refused, and fills all there is before it gives up.
+fn in_one_row(heap: Global, count: usize) -> Result<Vec<usize>, AllocError>
+    ensures answer { IfOk result (λ v. v.items ≡ map (λ i. i + 1) (range_with_len 0 count)) }
 {
-    let link = Link {
-        width: LinkWidth::Zero,
-        is_signed: false,
-        whence: OffsetWhence::Head,
-        bias: 0,
-        position: 0,
-        objidx: ObjIdx(0),
-    };
-    (0..count).map(|i| Cell { link, next: i + 1 }).collect(heap)
+    let mut nexts = Vec::with_capacity(heap, count)?;
+    nexts.extend((0..count).map(|i| i + 1))?;
+    Ok(nexts)
 }

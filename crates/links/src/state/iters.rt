@@ -1,6 +1,5 @@
 // A way through the links of one list, from its first to its last, at one step a link.
 ghost use Rattle.std.specs.Prelude.{ℕ, ◌<◌, vec_len};
-ghost use Rattle.links.specs.Cells.{nexts};
 ghost use Rattle.links.specs.Walk.{hop};
 
 use super::Links;
@@ -12,5 +11,5 @@ pub struct LinkIter<'a> {
     owner: &'a Links,
     cell: usize,
     left: usize,
-    ghost inside: { (i : ℕ) → i < left → hop (nexts owner.now.cells.items) cell i < vec_len owner.now.cells },
+    ghost inside: { (i : ℕ) → i < left → hop owner.now.nexts.items cell i < vec_len owner.now.nexts },
 }

@@ -5,7 +5,7 @@ ghost use Rattle.std.specs.List.{slice_get};
 ghost use Rattle.links.specs.Meaning.{Same, lists, list_at, used, cells};
 
 use super::Links;
-use link::Link;
+use link::{Link, same_link};
 
 impl Links {
     // How many links the list has, if there is such a list.
@@ -20,8 +20,8 @@ impl Links {
         ensures answer { result ≡ slice_get (list_at self.now list) i }
     {
         let chain = self.chain(list).filter(|chain| i < chain.count)?;
-        let at = chain.cell(&self.cells, i);
-        Some(self.cells[at].link)
+        let at = chain.cell(&self.nexts, i);
+        Some(self.links[at])
     }
 
     // The last link of the list.
@@ -29,7 +29,7 @@ impl Links {
         ensures answer { result ≡ slice_get (list_at self.now list) (length (list_at self.now list) - 1) }
     {
         let chain = self.chain(list).filter(|chain| chain.count > 0)?;
-        Some(self.cells[chain.last].link)
+        Some(self.links[chain.last])
     }
 
     // How many cells hold a link: never more than there are.
@@ -46,13 +46,17 @@ impl Links {
     pub fn cells(&self) -> usize
         ensures answer { result ≡ cells self.now }
     {
-        self.cells.len()
+        self.links.len()
     }
 
-    // Whether both lists exist and have the same links in the same order.
+    // Whether both lists exist and have the same links in the same order. Lists of different length are told apart at
+    // once.
     pub fn same(&self, a: usize, b: usize) -> bool
         ensures answer { Decides result (Same self.now a b) }
     {
-        a < self.chains.len() && b < self.chains.len() && self.iter(a).eq(self.iter(b))
+        a < self.chains.len()
+            && b < self.chains.len()
+            && self.chains[a].count == self.chains[b].count
+            && self.iter(a).zip(self.iter(b)).all(|(x, y)| same_link(x, y))
     }
 }

@@ -32,8 +32,8 @@ impl Iterator for LinkIter<'_> {
 
     fn next(&mut self) -> Option<Link> {
         self.left = self.left.checked_sub(1)?;
-        let cell = self.owner.cells[self.cell];
-        self.cell = cell.next;
-        Some(cell.link)
+        let link = self.owner.links[self.cell];
+        self.cell = self.owner.nexts[self.cell];
+        Some(link)
     }
 }

@@ -1,19 +1,16 @@
 use Rattle.std.proofs.Common.{◌≡◌, ℕ, ◌-◌, get_or, sym, ap, ◌∙◌, arith}
 use Rattle.links.specs.declared.chains.Chain.{Chain}
-use Rattle.links.specs.Cells.{nexts}
 use Rattle.links.specs.Walk.{hop}
-use Rattle.links.proofs.Cells.{nexts_length, next_at}
 use Rattle.links.proofs.Walk.{hop_from_last}
 use Rattle.links.proofs.chains.Chain.split.Goals as goal
 use Rattle.links.proofs.chains.Chain.split.Goals.{then-n-eq0, else-n-eq0}
 
-pub bounds-cells-last : goal.bounds-cells-last
-bounds-cells-last c = omega (arith, c.cell-last.ensures.answer, c.requires.inside (c.args.n - 1) (omega arith), nexts_length c.args.cells.now)
+pub bounds-nexts-last : goal.bounds-nexts-last
+bounds-nexts-last c = omega (arith, c.cell-last.ensures.answer, c.requires.inside (c.args.n - 1) (omega arith))
 
 pub returns : goal.returns
 returns c =
-    let cs = c.args.cells.now in
-    let ns = nexts cs in
+    let ns = c.args.nexts.now in
     let a = c.args.self in
     let n = c.args.n in
     let ends : c.if-n-eq0.last ≡ (hop ns a.first (n - 1), hop ns a.first n) =
@@ -21,7 +18,7 @@ returns c =
       | then-n-eq0 w ↦ w.last-is ∙ ap {B = ℕ × ℕ} (λ (m : ℕ). (hop ns a.first (m - 1), hop ns a.first m)) (sym w.if-n-eq0.true)
       | else-n-eq0 w ↦
           let last : w.cell-last.result ≡ hop ns a.first (n - 1) = w.cell-last.ensures.answer in
-          let next = next_at cs w.cell-last.result _ (omega (arith, last, c.requires.inside (n - 1) (omega arith), nexts_length cs)) ∙ ap (λ (k : ℕ). get_or ns k 0) last ∙ sym (hop_from_last ns a.first n (omega arith)) in
+          let next = ap (λ (k : ℕ). get_or ns k 0) last ∙ sym (hop_from_last ns a.first n (omega arith)) in
           w.last-is ∙ (λ i. (last i, next i))
     ] in
     record {

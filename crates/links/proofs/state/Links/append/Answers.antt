@@ -1,10 +1,7 @@
-use Rattle.std.proofs.Common.{ℕ, List, vec_items, refl, ap, ◌∙◌, arith}
-use Rattle.std.specs.Vec.{with_item}
-use Rattle.links.specs.declared.chains.Cell.{Cell}
+use Rattle.std.proofs.Common.{refl, ap, arith}
 use Rattle.links.specs.Walk.{linked}
 use Rattle.links.specs.Meaning.{lists, cells}
-use Rattle.links.proofs.Cells.{held_set, nexts_kept, lent_nexts, lent_held}
-use Rattle.links.proofs.Reading.{At, free_inside, read_last, counts_fit}
+use Rattle.links.proofs.Reading.{At, lent_back, free_inside, read_last, counts_fit}
 use Rattle.links.proofs.Append.{refuse_list, refuse_full, accept, free_in, append_wired, append_lists}
 use Rattle.links.proofs.state.Links.append.Goals as goal
 
@@ -27,22 +24,18 @@ join-requires-clause-inside c =
 
 pub join-requires-clause-fits : goal.join-requires-clause-fits
 join-requires-clause-fits c =
-    let at : At c.args.self.now c.args.list c.in-Some.chain.now = record { within = c.in-Some.ensures.variant.0 refl; read = c.in-Some.ensures.value } in
-    omega (arith, counts_fit c.args.self.now c.args.list c.in-Some.chain.now at, ap (λ t. t.count) c.split.ensures.front, c.deref_mut.ensures.len)
+    let s = c.args.self.now in
+    let at : At s c.args.list c.in-Some.chain.now = record { within = c.in-Some.ensures.variant.0 refl; read = c.in-Some.ensures.value } in
+    omega (arith, counts_fit s c.args.list c.in-Some.chain.now at, ap (λ t. t.count) c.split.ensures.front, c.deref_mut.ensures.len)
 
 pub invariant_of-self-2 : goal.invariant_of-self-2
 invariant_of-self-2 c =
     let s = c.args.self.now in
     let x = c.in-Some.chain.now in
-    let one = c.split.result.0 in
     let at : At s c.args.list x = record { within = c.in-Some.ensures.variant.0 refl; read = c.in-Some.ensures.value } in
-    let put : Cell = record { link = c.args.link; next = c.index_mut.result.now.next } in
-    let v = with_item s.cells one.first put in
-    let ms =
-    lent_nexts v c.deref_mut.result.now c.join.new.cells c.deref_mut.ensures.value c.join.auto.cells (λ ns. linked ns x one) c.join.ensures.nexts
-    ∙ ap (λ (ns : List ℕ). linked ns x one) (nexts_kept (vec_items s.cells) one.first put c.index_mut.result.now (ap (λ (t : Cell). t.next) c.index_mut.ensures.value)) in
-    let w = append_wired s c.args.list x one c.split.result.1 c.join.result _ at (omega arith) c.split.ensures.front (rw c.deref.ensures.value at c.split.ensures.back) c.join.ensures.chain ms in
-    record { once = w.once; ended = w.ended; filled = w.filled }
+    let ms = lent_back s.nexts c.deref_mut.result.now c.join.new.nexts c.deref_mut.ensures.value c.join.auto.nexts (λ ns. linked ns x c.split.result.0) c.join.ensures.nexts in
+    let w = append_wired s c.args.list x c.split.result.0 c.split.result.1 c.join.result _ at (omega arith) c.split.ensures.front (rw c.deref.ensures.value at c.split.ensures.back) c.join.ensures.chain ms in
+    record { sized = s.sized; once = w.once; ended = w.ended; filled = w.filled }
 
 pub returns-clause-answer : goal.returns-clause-answer
 returns-clause-answer c = accept c.args.self.now c.args.list (c.in-Some.ensures.variant.0 refl) (omega arith)
@@ -52,17 +45,9 @@ unfolding lists
 returns-clause-state c =
     let s = c.args.self.now in
     let x = c.in-Some.chain.now in
-    let one = c.split.result.0 in
     let at : At s c.args.list x = record { within = c.in-Some.ensures.variant.0 refl; read = c.in-Some.ensures.value } in
-    let put : Cell = record { link = c.args.link; next = c.index_mut.result.now.next } in
-    let v = with_item s.cells one.first put in
-    let ms =
-    lent_nexts v c.deref_mut.result.now c.join.new.cells c.deref_mut.ensures.value c.join.auto.cells (λ ns. linked ns x one) c.join.ensures.nexts
-    ∙ ap (λ (ns : List ℕ). linked ns x one) (nexts_kept (vec_items s.cells) one.first put c.index_mut.result.now (ap (λ (t : Cell). t.next) c.index_mut.ensures.value)) in
-    let ls =
-    lent_held v c.deref_mut.result.now c.join.new.cells c.deref_mut.ensures.value c.join.auto.cells c.join.ensures.held
-    ∙ held_set (vec_items s.cells) one.first put in
-    append_lists s c.args.list x one c.split.result.1 c.join.result _ at (omega arith) c.split.ensures.front (rw c.deref.ensures.value at c.split.ensures.back) c.join.ensures.chain ms c.args.link _ ls
+    let ms = lent_back s.nexts c.deref_mut.result.now c.join.new.nexts c.deref_mut.ensures.value c.join.auto.nexts (λ ns. linked ns x c.split.result.0) c.join.ensures.nexts in
+    append_lists s c.args.list x c.split.result.0 c.split.result.1 c.join.result _ at (omega arith) c.split.ensures.front (rw c.deref.ensures.value at c.split.ensures.back) c.join.ensures.chain ms c.args.link
 
 pub returns-clause-same : goal.returns-clause-same
 unfolding cells

@@ -1,8 +1,7 @@
 use Rattle.std.proofs.Common.{refl, arith}
 use Rattle.links.specs.Walk.{linked}
 use Rattle.links.specs.Meaning.{lists, cells}
-use Rattle.links.proofs.Cells.{lent_nexts, lent_held}
-use Rattle.links.proofs.Reading.{At, read_last}
+use Rattle.links.proofs.Reading.{At, lent_back, read_last}
 use Rattle.links.proofs.AppendAll.{not_first, not_second, not_two, two, all_fits, all_wired, all_lists}
 use Rattle.links.proofs.state.Links.append_all.Goals as goal
 use Rattle.links.proofs.state.Links.append_all.Goals.{then-to-len-via-then-to-len, then-to-len-via-else-to-len+then-from-len, then-to-len-via-else-to-len+else-from-len+then-to-from}
@@ -37,9 +36,9 @@ invariant_of-self c =
     let back = c.index-back.result.now in
     let at_to : At s c.args.to front = record { within = omega arith; read = c.index-front.ensures } in
     let at_from : At s c.args.from back = record { within = omega arith; read = c.index-back.ensures } in
-    let ms = lent_nexts s.cells c.deref_mut.result.now c.join.new.cells c.deref_mut.ensures.value c.join.auto.cells (λ ns. linked ns front back) c.join.ensures.nexts in
+    let ms = lent_back s.nexts c.deref_mut.result.now c.join.new.nexts c.deref_mut.ensures.value c.join.auto.nexts (λ ns. linked ns front back) c.join.ensures.nexts in
     let w = all_wired s c.args.to c.args.from front back c.join.result _ at_to at_from (omega arith) c.join.ensures.chain ms in
-    record { once = w.once; ended = w.ended; filled = w.filled }
+    record { sized = s.sized; once = w.once; ended = w.ended; filled = w.filled }
 
 pub returns : goal.returns
 unfolding lists cells
@@ -49,10 +48,9 @@ returns c =
     let back = c.index-back.result.now in
     let at_to : At s c.args.to front = record { within = omega arith; read = c.index-front.ensures } in
     let at_from : At s c.args.from back = record { within = omega arith; read = c.index-back.ensures } in
-    let ms = lent_nexts s.cells c.deref_mut.result.now c.join.new.cells c.deref_mut.ensures.value c.join.auto.cells (λ ns. linked ns front back) c.join.ensures.nexts in
-    let ls = lent_held s.cells c.deref_mut.result.now c.join.new.cells c.deref_mut.ensures.value c.join.auto.cells c.join.ensures.held in
+    let ms = lent_back s.nexts c.deref_mut.result.now c.join.new.nexts c.deref_mut.ensures.value c.join.auto.nexts (λ ns. linked ns front back) c.join.ensures.nexts in
     record {
       answer = two s c.args.to c.args.from (omega arith) (omega arith) (omega arith);
-      state = all_lists s c.args.to c.args.from front back c.join.result _ at_to at_from (omega arith) c.join.ensures.chain ms _ ls;
+      state = all_lists s c.args.to c.args.from front back c.join.result _ at_to at_from (omega arith) c.join.ensures.chain ms;
       same = refl;
     }

@@ -11,7 +11,10 @@ loop-list-preserved c =
       c.clear.ensures.same ∙ c.loop-list.invariant.1,
     )
 
-pub returns-clause-state : goal.returns-clause-state
-returns-clause-state c =
+pub returns : goal.returns
+returns c =
     let s = c.args.self.now in
-    reached_all (lists s) (lists c.loop-list.self) [] c.loop-list.list (omega (arith, lists_length s)) c.loop-list.invariant.0
+    record {
+      state = reached_all (lists s) (lists c.loop-list.self) [] c.loop-list.list (omega (arith, lists_length s)) c.loop-list.invariant.0;
+      same = c.loop-list.invariant.1;
+    }

@@ -1,8 +1,7 @@
 use Rattle.std.proofs.Common.{refl, ap, ◌∙◌, arith}
 use Rattle.links.specs.Walk.{linked}
 use Rattle.links.specs.Meaning.{lists, cells, meaning}
-use Rattle.links.proofs.Cells.{lent_nexts, lent_held}
-use Rattle.links.proofs.Reading.{links_of, nexts_of, At, put_back, no_list, a_list, read_inside, free_last, counts_fit}
+use Rattle.links.proofs.Reading.{links_of, nexts_of, At, lent_back, put_back, no_list, a_list, read_inside, free_last, counts_fit}
 use Rattle.links.proofs.Cut.{cut_no_list, cut_none, cut_wired, cut_lists}
 use Rattle.links.proofs.state.Links.cut.Goals as goal
 
@@ -42,10 +41,10 @@ invariant_of-self-2 c =
     let s = c.args.self.now in
     let x = c.in-Some.chain.now in
     let at : At s c.args.list x = record { within = c.in-Some.ensures.variant.0 refl; read = c.in-Some.ensures.value } in
-    let ms = lent_nexts s.cells c.deref_mut.result.now c.join-self.new.cells c.deref_mut.ensures.value c.join-self.auto.cells (λ ns. linked ns s.free c.split.result.1) c.join-self.ensures.nexts in
+    let ms = lent_back s.nexts c.deref_mut.result.now c.join-self.new.nexts c.deref_mut.ensures.value c.join-self.auto.nexts (λ ns. linked ns s.free c.split.result.1) c.join-self.ensures.nexts in
     let w = cut_wired s c.args.list c.args.n x c.split.result.0 c.split.result.1 c.join-self.result _ at (omega arith)
     (rw c.deref.ensures.value at c.split.ensures.front) (rw c.deref.ensures.value at c.split.ensures.back) c.join-self.ensures.chain ms in
-    record { once = w.once; ended = w.ended; filled = w.filled }
+    record { sized = s.sized; once = w.once; ended = w.ended; filled = w.filled }
 
 pub returns-clause-answer : goal.returns-clause-answer
 returns-clause-answer c = a_list c.args.self.now c.args.list (c.in-Some.ensures.variant.0 refl)
@@ -56,10 +55,9 @@ returns-clause-state c =
     let s = c.args.self.now in
     let x = c.in-Some.chain.now in
     let at : At s c.args.list x = record { within = c.in-Some.ensures.variant.0 refl; read = c.in-Some.ensures.value } in
-    let ms = lent_nexts s.cells c.deref_mut.result.now c.join-self.new.cells c.deref_mut.ensures.value c.join-self.auto.cells (λ ns. linked ns s.free c.split.result.1) c.join-self.ensures.nexts in
-    let ls = lent_held s.cells c.deref_mut.result.now c.join-self.new.cells c.deref_mut.ensures.value c.join-self.auto.cells c.join-self.ensures.held in
+    let ms = lent_back s.nexts c.deref_mut.result.now c.join-self.new.nexts c.deref_mut.ensures.value c.join-self.auto.nexts (λ ns. linked ns s.free c.split.result.1) c.join-self.ensures.nexts in
     cut_lists s c.args.list c.args.n x c.split.result.0 c.split.result.1 c.join-self.result _ at (omega arith)
-    (rw c.deref.ensures.value at c.split.ensures.front) (rw c.deref.ensures.value at c.split.ensures.back) c.join-self.ensures.chain ms _ ls
+    (rw c.deref.ensures.value at c.split.ensures.front) (rw c.deref.ensures.value at c.split.ensures.back) c.join-self.ensures.chain ms
 
 pub returns-clause-same : goal.returns-clause-same
 unfolding cells

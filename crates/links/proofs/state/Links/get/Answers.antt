@@ -1,4 +1,4 @@
-use Rattle.std.proofs.Common.{rules, ◌≡◌, ◌≤◌, ◌<◌, Some, sym, ◌∙◌}
+use Rattle.std.proofs.Common.{rules, ◌≡◌, ◌≤◌, ◌<◌, Some, sym, ◌∙◌, arith}
 use Rattle.std.proofs.lemmas.Grind.{common_steps}
 use Rattle.links.specs.declared.chains.Chain.{Chain}
 use Rattle.links.proofs.Reading.{found, read_inside, step_within, get_short, get_some}
@@ -21,7 +21,7 @@ index-requires c =
     let s = c.args.self.now in
     let x = c.in_ok-chain.chain in
     let long : (c.chain.result ≡ Some x) × (c.args.i < x.count) = search (rules, common_steps) in
-    step_within s c.args.list x (found s c.args.list x (sym c.chain.ensures.answer ∙ long.0)) c.args.i c.cell-at.result long.1 (rw c.deref.ensures.value at c.cell-at.ensures.answer)
+    omega (arith, step_within s c.args.list x (found s c.args.list x (sym c.chain.ensures.answer ∙ long.0)) c.args.i c.cell-at.result long.1 (rw c.deref.ensures.value at c.cell-at.ensures.answer), s.sized)
 
 pub returns : goal.returns
 returns c =

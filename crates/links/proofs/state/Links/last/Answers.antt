@@ -16,7 +16,7 @@ index-requires c =
     let s = c.args.self.now in
     let x = c.in_ok-chain.chain in
     let some : (c.chain.result ≡ Some x) × (0 < x.count) = search (rules, common_steps) in
-    read_last s c.args.list x (found s c.args.list x (sym c.chain.ensures.answer ∙ some.0)) some.1
+    omega (arith, read_last s c.args.list x (found s c.args.list x (sym c.chain.ensures.answer ∙ some.0)) some.1, s.sized)
 
 pub returns : goal.returns
 returns c =
