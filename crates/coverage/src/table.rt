@@ -5,7 +5,7 @@ ghost use Rattle.coverage.specs.Coverage.{glyph_array};
 ghost use Rattle.coverage.specs.Built.{Built};
 ghost use Rattle.coverage.specs.declared.table.CoverageFault.TheVariants.{NoMemory};
 
-use scalar::{CountScalar, Scalar};
+use scalar::{CountScalar, Scalar, write_at};
 use std::alloc::{AllocError, Global};
 use std::error::Error;
 use std::fmt;
@@ -43,11 +43,13 @@ impl From<AllocError> for CoverageFault {
     }
 }
 
-// Puts a scalar at the end of a table.
+// Puts a scalar at the end of a table, from a field of four bytes, in which each scalar has room.
 fn embed<S: Scalar>(table: &mut Vec<u8>, value: S) -> Result<(), AllocError>
     ensures state { OnOk result (table.new.items ≡ table.old.items ++ S.Scalar.bytes value) }
 {
-    table.extend_from_slice(&value.raw()[0..S::size()])
+    let mut field = [0; 4];
+    let _ = write_at(&mut field, 0, value);
+    table.extend_from_slice(&field[0..S::size()])
 }
 
 // The table of a format, a count and ids.
