@@ -1,31 +1,39 @@
 // What can be read: places and lengths, packed objects with their links, and the output.
-ghost use Rattle.std.specs.Prelude.{◌≡◌};
+ghost use Rattle.std.specs.Prelude.{◌≡◌, ◌≤◌, true, length};
 ghost use Rattle.std.specs.Option.{option_map};
 ghost use Rattle.model.specs.Reading.{allocated as allocated_of, open_length, packed_count, object as object_seen, real_link, virtual_link, copy_bytes};
 ghost use Rattle.serializer_read.specs.Reads.{seen_in};
+ghost use Rattle.serializer_state.specs.Extents.{within, lying};
+ghost use Rattle.serialize.specs.Kept.{Kept};
 
 use super::Serializer;
 use link::{Link, ObjIdx};
 use serializer_read::ObjectView;
 
 impl Serializer {
-    // Where the next byte is written.
+    // Where the next byte is written: never above tail.
     pub fn head(&self) -> usize
         ensures answer { result ≡ self.now.head }
+        ensures apart { self.now.head ≤ self.now.tail }
     {
         self.state.cursor.head
     }
 
-    // Where the packed objects begin.
+    // Where the packed objects begin: within the memory.
     pub fn tail(&self) -> usize
         ensures answer { result ≡ self.now.tail }
+        ensures within { self.now.tail ≤ length self.now.memory }
     {
         self.state.cursor.tail
     }
 
-    // How many bytes the memory has.
+    // How many bytes the memory has: what open objects recorded, and where packed objects lie, is within them. With it comes all
+    // that the fields of a serializer keep.
     pub fn allocated(&self) -> usize
         ensures answer { result ≡ allocated_of self.now }
+        ensures inside { within (length self.now.memory) self.now.opened ≡ true }
+        ensures lies { lying (length self.now.memory) self.now.packed ≡ true }
+        ensures kept { Kept self.now }
     {
         serializer_write::allocated(&self.state)
     }
